@@ -1,0 +1,4 @@
+// The kinds of card: each is only a reading, over the one table that keeps orders.
+mod entry;
+pub mod points;
+pub mod written_list;

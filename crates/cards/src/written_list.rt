@@ -1,0 +1,47 @@
+// Written lists: the items from best to worst, every item once.
+ghost use mathlib.Core.Path.{_≡_};
+ghost use Prim.Native.Nat.{_*_, _≤_};
+ghost use lib.ListN.{length};
+ghost use Rattle.cards.specs.Readings.{Placed, listReading};
+use crate::entry::check_length;
+use crate::entry::entry;
+use orders::card_book::CardBook;
+use orders::fault::CardFault;
+use orders::limits::MOST;
+use orders::reader::CardReader;
+
+#[derive(Clone, Copy)]
+pub struct WrittenList;
+
+pub type ListBook = CardBook<WrittenList>;
+
+// The place of each item: 0 until the list names it, so that an entry which finds another place
+// there repeats an earlier one.
+fn places_of(card: &[u8], items: usize) -> Result<[u16; MOST], CardFault>
+    requires { ⌜ (items ≤ 432) × (length (now card) ≡ 2 * items) ⌝ }
+    ensures { λ r. ⌜ Placed items (now (card .entry)) r ⌝ }
+{
+    let mut places = [0; MOST];
+    for k in 0..items {
+        let item = entry(card, k) as usize;
+        if item < 1 || item > items {
+            return Err(CardFault::OutOfRange { entry: k + 1 });
+        }
+        if places[item - 1] != 0 {
+            return Err(CardFault::Repeated { entry: k + 1 });
+        }
+        places[item - 1] = (k + 1) as u16;
+    }
+    Ok(places)
+}
+
+pub impl CardReader for WrittenList as WrittenListReader {
+    ghost reads = { λ _. listReading };
+
+    fn read(&self, card: &[u8], _chooser: usize, row: &mut [u16]) -> Result<(), CardFault> {
+        check_length(card, row.len())?;
+        let places = places_of(card, row.len())?;
+        row.copy_from_slice(&places[0..row.len()]);
+        Ok(())
+    }
+}

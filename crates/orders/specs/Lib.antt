@@ -1,0 +1,4 @@
+pub mod Refusals
+pub mod Books
+pub mod Rows
+pub mod Tables
