@@ -13,7 +13,7 @@ use Rattle.std.specs.declared.result.Result.the-variants.{Ok, Err}
 use Rattle.orders.specs.declared.fault.CardFault.{CardFault}
 use Rattle.orders.specs.declared.fault.RefusedCard.{RefusedCard}
 use Rattle.orders.specs.declared.fault.BookFault.{BookFault}
-use Rattle.orders.specs.declared.fault.BookFault.the-variants.{Chooser, Card}
+use Rattle.orders.specs.declared.fault.BookFault.the-variants.{Size, Chooser, Card}
 use Rattle.orders.specs.Refusals.{bookRefusal, told}
 
 -- k is one of 1 to n
@@ -79,12 +79,12 @@ ReadFor chooser reading (Err card) after = (reading ≡ Err (card .fault)) × (c
 -- Clearing a book: what it answers, with the book before and after.
 abbrev pub Cleared : ℕ → ℕ → Meaning → Result (Unit {0}) BookFault → Meaning → Type 0
 Cleared choosers items before (Ok _) after = (fits choosers items ≡ true) × (after ≡ blank choosers items)
-Cleared choosers items before (Err fault) after = (fits choosers items ≡ false) × (bookRefusal fault ≡ told 4 0) × (after ≡ before)
+Cleared choosers items before (Err fault) after = (fits choosers items ≡ false) × (fault ≡ Size) × (bookRefusal fault ≡ told 4 0) × (after ≡ before)
 
 -- Entering a card.
 abbrev pub Entered : Reading → ℕ → List ℕ → Meaning → Result (Unit {0}) BookFault → Meaning → Type 0
 Entered reading chooser card before (Ok _) after = (places : List ℕ) × (readCard reading before chooser card ≡ Ok places) × (after ≡ entered before chooser places)
-Entered reading chooser card before (Err fault) after = (readCard reading before chooser card ≡ Err fault) × (after ≡ before)
+Entered reading chooser card before (Err fault) after = (readCard reading before chooser card ≡ Err fault) × (within chooser (before .choosers) ≡ false → bookRefusal fault ≡ told 5 0) × (after ≡ before)
 
 -- What every book keeps.
 pub record Sound (book : Meaning) : Type 0 where
