@@ -67,10 +67,10 @@ fn run(rt: &LibcRuntime) -> Result<(), AnyError> {
         return Err("usage: readcard KIND ITEMS, with the card on standard input".into());
     };
     let Some(kind) = kind_of(kind.as_str()) else {
-        return Err("KIND is list or points".into());
+        return Err("KIND is neither list nor points".into());
     };
     let Ok(items) = items.as_str().parse::<usize>() else {
-        return Err("ITEMS is a number".into());
+        return Err("ITEMS is no number of at most 64 bits".into());
     };
     let mut card = Vec::new(rt.alloc());
     rt.stdin().read_to_end(&mut card)?;
