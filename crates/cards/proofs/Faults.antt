@@ -38,11 +38,11 @@ module _ (items : ℕ) (card : List ℕ) where
   first-at k zero fault l none bad = absurd (omega arith)
   first-at k (suc n) fault l none bad =
       ⊎-elim
-        (λ (e : k ≡ n). subst (λ j. orElse (firstFault items card j) (entryFault items card j) ≡ Some fault) e (ap (λ o. orElse o (entryFault items card k)) none ∙ bad))
-        (λ (ne : k ≡ n → ⊥).
-          let m : k < n = ⊎-elim (λ (z : k < n). z) (λ (z : n ≤ k). absurd (ne (omega arith))) (cases-lt k n) in
-          ap (λ o. orElse o (entryFault items card n)) (first-at k n fault m none bad))
-        (cases-eq k n)
+      (λ (e : k ≡ n). subst (λ j. orElse (firstFault items card j) (entryFault items card j) ≡ Some fault) e (ap (λ o. orElse o (entryFault items card k)) none ∙ bad))
+      (λ (ne : k ≡ n → ⊥).
+      let m : k < n = ⊎-elim (λ (z : k < n). z) (λ (z : n ≤ k). absurd (ne (omega arith))) (cases-lt k n) in
+      ap (λ o. orElse o (entryFault items card n)) (first-at k n fault m none bad))
+      (cases-eq k n)
 
   pub first-out : (k n : ℕ) → k < n → firstFault items card k ≡ None → within (entryAt card k) items ≡ false → firstFault items card n ≡ Some (OutOfRange (k + 1))
   first-out k n l none outside = first-at k n _ l none (entry-out k outside)
@@ -59,19 +59,19 @@ module _ (items : ℕ) (card : List ℕ) where
   good-entry k e =
       let in-turn = cond (eqb (before k) 0) None (Some (Repeated (k + 1))) in
       ⊎-elim
-        (λ (inside : within (entryAt card k) items ≡ true).
-          ⊎-elim
-            (λ (new : eqb (before k) 0 ≡ true). (grind (arith, tells), grind (arith, tells), eqb-true (before k) 0 new))
-            (λ (old : eqb (before k) 0 ≡ false).
-              let some : Some (Repeated (k + 1)) ≡ None = sym (cond-false _ _ _ old) ∙ sym (cond-true _ in-turn _ inside) ∙ e in
-              let z : _≡_ {A = ℕ} 0 1 = cc in
-              absurd (omega arith))
-            (cases-bool (eqb (before k) 0)))
-        (λ (outside : within (entryAt card k) items ≡ false).
-          let some : Some (OutOfRange (k + 1)) ≡ None = sym (entry-out k outside) ∙ e in
-          let z : _≡_ {A = ℕ} 0 1 = cc in
-          absurd (omega arith))
-        (cases-bool (within (entryAt card k) items))
+      (λ (inside : within (entryAt card k) items ≡ true).
+      ⊎-elim
+      (λ (new : eqb (before k) 0 ≡ true). (grind (arith, tells), grind (arith, tells), eqb-true (before k) 0 new))
+      (λ (old : eqb (before k) 0 ≡ false).
+      let some : Some (Repeated (k + 1)) ≡ None = sym (cond-false _ _ _ old) ∙ sym (cond-true _ in-turn _ inside) ∙ e in
+      let z : _≡_ {A = ℕ} 0 1 = cc in
+      absurd (omega arith))
+      (cases-bool (eqb (before k) 0)))
+      (λ (outside : within (entryAt card k) items ≡ false).
+      let some : Some (OutOfRange (k + 1)) ≡ None = sym (entry-out k outside) ∙ e in
+      let z : _≡_ {A = ℕ} 0 1 = cc in
+      absurd (omega arith))
+      (cases-bool (within (entryAt card k) items))
 
   -- a list without a fault: each entry is in range and differs from those before it
   pub good-entries : (n : ℕ) → firstFault items card n ≡ None → (k : ℕ) → k < n → (1 ≤ entryAt card k) × (entryAt card k ≤ items) × (before k ≡ 0)
@@ -79,6 +79,6 @@ module _ (items : ℕ) (card : List ℕ) where
   good-entries (suc n) e k l =
       let parts = first-part (firstFault items card n) (entryFault items card n) e in
       ⊎-elim
-        (λ (is : k ≡ n). subst (λ j. (1 ≤ entryAt card j) × (entryAt card j ≤ items) × (before j ≡ 0)) (sym is) (good-entry n (parts .1)))
-        (λ (ne : k ≡ n → ⊥). good-entries n (parts .0) k (⊎-elim (λ (z : k < n). z) (λ (z : n ≤ k). absurd (ne (omega arith))) (cases-lt k n)))
-        (cases-eq k n)
+      (λ (is : k ≡ n). subst (λ j. (1 ≤ entryAt card j) × (entryAt card j ≤ items) × (before j ≡ 0)) (sym is) (good-entry n (parts .1)))
+      (λ (ne : k ≡ n → ⊥). good-entries n (parts .0) k (⊎-elim (λ (z : k < n). z) (λ (z : n ≤ k). absurd (ne (omega arith))) (cases-lt k n)))
+      (cases-eq k n)

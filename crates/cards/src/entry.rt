@@ -1,9 +1,11 @@
-// What the kinds of card share: two bytes for each entry, the higher first.
+//! What the kinds of card share: two bytes for each entry, the higher first.
+
 ghost use mathlib.Core.Path.{_≡_};
 ghost use mathlib.Core.Bool.{true};
 ghost use Prim.Native.Nat.{_+_, _*_, _<_};
 ghost use lib.ListN.{length};
-ghost use Rattle.cards.specs.Readings.{Measured, entryAt};
+ghost use Rattle.cards.specs.Readings.{entryAt};
+ghost use Rattle.cards.specs.Steps.{Measured};
 use orders::fault::CardFault;
 use orders::limits::MOST;
 
@@ -16,7 +18,7 @@ pub fn check_length(card: &[u8], items: usize) -> Result<(), CardFault>
     Ok(())
 }
 
-// Entry k, counted from 0.
+/// Entry k, counted from 0.
 pub fn entry(card: &[u8], k: usize) -> u16
     requires { ⌜ 2 * k + 1 < length (now card) ⌝ }
     ensures { λ r. ⌜ r ≡ entryAt (now (card .entry)) k ⌝ }

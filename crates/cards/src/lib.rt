@@ -1,4 +1,5 @@
-// The kinds of card: each is only a reading, over the one table that keeps orders.
+//! The kinds of card: each is only a reading, over the one table that keeps orders.
+
 mod entry;
 pub mod points;
 pub mod written_list;

@@ -1,8 +1,10 @@
-// Written lists: the items from best to worst, every item once.
+//! Written lists: the items from best to worst, every item once.
+
 ghost use mathlib.Core.Path.{_≡_};
-ghost use Prim.Native.Nat.{_*_, _≤_};
+ghost use Prim.Native.Nat.{_*_, _<_, _≤_};
 ghost use lib.ListN.{length};
-ghost use Rattle.cards.specs.Readings.{Placed, listReading};
+ghost use Rattle.cards.specs.Readings.{listReading};
+ghost use Rattle.cards.specs.Steps.{EntryRead, Listed, ListedTo};
 use crate::entry::check_length;
 use crate::entry::entry;
 use orders::card_book::CardBook;
@@ -15,22 +17,32 @@ pub struct WrittenList;
 
 pub type ListBook = CardBook<WrittenList>;
 
-// The place of each item: 0 until the list names it, so that an entry which finds another place
-// there repeats an earlier one.
+/// Reads entry k, counted from 0, behind entries that are good. An item's place is 0 until an entry
+/// names it, so an entry that finds another place there repeats an earlier one.
+fn read_entry(card: &[u8], items: usize, k: usize, places: &mut [u16]) -> Result<(), CardFault>
+    requires sizes { ⌜ (items ≤ 432) × (length (now card) ≡ 2 * items) × (items ≤ length (now places)) ⌝ }
+    requires before { ⌜ (k < items) × ListedTo items (now card) k (now places) ⌝ }
+    ensures { λ r. ⌜ EntryRead items (now (card .entry)) k (now (places .entry)) r (now (places .exit)) ⌝ }
+{
+    let item = entry(card, k) as usize;
+    if item < 1 || item > items {
+        return Err(CardFault::OutOfRange { entry: k + 1 });
+    }
+    if places[item - 1] != 0 {
+        return Err(CardFault::Repeated { entry: k + 1 });
+    }
+    places[item - 1] = (k + 1) as u16;
+    Ok(())
+}
+
+/// The place of each item, in a table that may have more places than there are items.
 fn places_of(card: &[u8], items: usize) -> Result<[u16; MOST], CardFault>
     requires { ⌜ (items ≤ 432) × (length (now card) ≡ 2 * items) ⌝ }
-    ensures { λ r. ⌜ Placed items (now (card .entry)) r ⌝ }
+    ensures { λ r. ⌜ Listed items (now (card .entry)) r ⌝ }
 {
     let mut places = [0; MOST];
     for k in 0..items {
-        let item = entry(card, k) as usize;
-        if item < 1 || item > items {
-            return Err(CardFault::OutOfRange { entry: k + 1 });
-        }
-        if places[item - 1] != 0 {
-            return Err(CardFault::Repeated { entry: k + 1 });
-        }
-        places[item - 1] = (k + 1) as u16;
+        read_entry(card, items, k, &mut places)?;
     }
     Ok(places)
 }

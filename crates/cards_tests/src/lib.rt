@@ -1,4 +1,5 @@
-// Examples for the order books: cards that are read, cards and calls that are refused, and what
-// they leave in the book.
+//! Examples for the order books: cards that are read, cards and calls that are refused, and what
+//! they leave in the book.
+
 #[cfg(test)]
 mod tests;

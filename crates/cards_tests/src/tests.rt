@@ -16,7 +16,7 @@ use orders::fault::RefusedCardDebug;
 use orders::fault::RefusedCardPartialEq;
 use std::test::*;
 
-// A card of three entries below 256.
+/// A card of three entries below 256.
 fn card(entries: [u8; 3]) -> [u8; 6] {
     [0, entries[0], 0, entries[1], 0, entries[2]]
 }
@@ -31,9 +31,13 @@ fn refused(r: Result<(), BookFault>, number: u8, place: usize) -> Result<(), Fai
     }
 }
 
-// The places of items 1, 2 and 3 with a chooser.
+/// The places of items 1, 2 and 3 with a chooser.
 fn places<B: OrderBook>(book: &B, chooser: usize) -> [Option<u16>; 3] {
-    [book.place(chooser, 1), book.place(chooser, 2), book.place(chooser, 3)]
+    [
+        book.place(chooser, 1),
+        book.place(chooser, 2),
+        book.place(chooser, 3),
+    ]
 }
 
 fn holds<B: OrderBook>(book: &B, chooser: usize, expected: [u16; 3]) -> Result<(), Fail> {
@@ -109,7 +113,15 @@ fn a_card_of_the_wrong_length_is_refused() -> Result<(), Fail> {
 #[test]
 fn sizes_are_accepted_up_to_the_limits() -> Result<(), Fail> {
     let mut book = CardBook::new(WrittenList);
-    for sizes in [(432, 16), (16, 432), (1, 1), (1, 432), (432, 1), (32, 216), (83, 83)] {
+    for sizes in [
+        (432, 16),
+        (16, 432),
+        (1, 1),
+        (1, 432),
+        (432, 1),
+        (32, 216),
+        (83, 83),
+    ] {
         let (choosers, items) = sizes;
         book.clear(choosers, items)?;
         check_eq(book.choosers(), choosers)?;
@@ -123,7 +135,17 @@ fn other_sizes_are_refused_and_change_nothing() -> Result<(), Fail> {
     let mut book = CardBook::new(WrittenList);
     book.clear(2, 3)?;
     book.enter(1, &card([2, 3, 1]))?;
-    for sizes in [(0, 3), (3, 0), (433, 1), (1, 433), (31, 223), (223, 31), (432, 17), (17, 432), (usize::MAX, usize::MAX)] {
+    for sizes in [
+        (0, 3),
+        (3, 0),
+        (433, 1),
+        (1, 433),
+        (31, 223),
+        (223, 31),
+        (432, 17),
+        (17, 432),
+        (usize::MAX, usize::MAX),
+    ] {
         let (choosers, items) = sizes;
         refused(book.clear(choosers, items), 4, 0)?;
         check_eq(book.choosers(), 2)?;
@@ -163,7 +185,10 @@ fn a_refused_card_is_told_with_its_chooser() -> Result<(), Fail> {
     let mut book = CardBook::new(WrittenList);
     book.clear(9, 3)?;
     let fault = CardFault::Repeated { entry: 2 };
-    check_eq(book.enter(7, &card([2, 2, 0])), Err(BookFault::Card(RefusedCard { chooser: 7, fault })))
+    check_eq(
+        book.enter(7, &card([2, 2, 0])),
+        Err(BookFault::Card(RefusedCard { chooser: 7, fault })),
+    )
 }
 
 #[test]
@@ -205,7 +230,7 @@ fn a_book_cleared_again_forgets_all() -> Result<(), Fail> {
     holds(&book, 2, [1, 3, 2])
 }
 
-// The list of all 432 items from the last to the first.
+/// The list of all 432 items from the last to the first.
 fn backwards() -> [u8; 864] {
     let mut card = [0u8; 864];
     for k in 0..432usize {

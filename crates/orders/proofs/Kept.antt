@@ -27,15 +27,15 @@ row-of choosers items xs chooser places e =
     let start = (chooser - 1) * items in
     let test : Bool = within chooser choosers && ltb 0 (getD xs start 0) in
     ⊎-elim
-      (λ (t : test ≡ true).
-        let parts = and-parts _ _ t in
-        let some : Some (take items (drop start xs)) ≡ Some places = sym (cond-true _ _ _ t) ∙ e in
-        record { listed = parts .0; begun = ltb-true 0 _ (parts .1); is = cc })
-      (λ (f : test ≡ false).
-        let none : None ≡ Some places = sym (cond-false _ (Some (take items (drop start xs))) None f) ∙ e in
-        let z : _≡_ {A = ℕ} 0 1 = cc in
-        absurd (omega arith))
-      (cases-bool test)
+    (λ (t : test ≡ true).
+    let parts = and-parts _ _ t in
+    let some : Some (take items (drop start xs)) ≡ Some places = sym (cond-true _ _ _ t) ∙ e in
+    record { listed = parts .0; begun = ltb-true 0 _ (parts .1); is = cc })
+    (λ (f : test ≡ false).
+    let none : None ≡ Some places = sym (cond-false _ (Some (take items (drop start xs))) None f) ∙ e in
+    let z : _≡_ {A = ℕ} 0 1 = cc in
+    absurd (omega arith))
+    (cases-bool test)
 
 module _ (table : OrderTable) (chooser : ℕ) (places : List ℕ) (row : Row (table .choosers) (table .items) (table .places) chooser places) where
   abbrev c : ℕ
@@ -62,7 +62,7 @@ module _ (table : OrderTable) (chooser : ℕ) (places : List ℕ) (row : Row (ta
         low = λ i h. omega (arith, at i h, table .low c i (inside, h, row .begun));
         high = λ i h. omega (arith, at i h, table .high c i (inside, h, row .begun));
         apart = λ i j h k e.
-          omega (arith, table .apart c i j (inside, h, k, row .begun, omega (arith, e, at i h, at j k)), table .apart c j i (inside, k, h, row .begun, omega (arith, e, at i h, at j k)));
+            omega (arith, table .apart c i j (inside, h, k, row .begun, omega (arith, e, at i h, at j k)), table .apart c j i (inside, k, h, row .begun, omega (arith, e, at i h, at j k)));
       }
 
 pub table-sound : (table : OrderTable) → Sound (tableMeaning table)

@@ -70,8 +70,8 @@ module _ (choosers items chooser n : ℕ) (xs row : List ℕ) (is : n ≡ items)
   other d ne i h =
       ⊎-elim {C = getD table (d * items + i) 0 ≡ getD xs (d * items + i) 0} (λ (e : d ≡ c). absurd (ne e))
       (⊎-elim
-        (λ (l : d < c). before-row (c * items) n xs row fits each (d * items + i) (omega (arith, row-end d c items l)))
-        (λ (l : c < d). behind-row (c * items) n xs row fits each (d * items + i) (omega (arith, row-end c d items l))))
+      (λ (l : d < c). before-row (c * items) n xs row fits each (d * items + i) (omega (arith, row-end d c items l)))
+      (λ (l : c < d). behind-row (c * items) n xs row fits each (d * items + i) (omega (arith, row-end c d items l))))
       (cases-order d c)
 
   first : (d : ℕ) → (d ≡ c → ⊥) → 0 < items → getD table (d * items) 0 ≡ getD xs (d * items) 0
@@ -109,7 +109,7 @@ module _ (choosers items chooser n : ℕ) (xs row : List ℕ) (is : n ≡ items)
   own-order : 0 < items → orderAt choosers items table chooser ≡ Some row
   own-order some =
       let begun : ltb 0 (getD table (c * items) 0) ≡ true =
-          lt-ltb 0 _ (omega (arith, order .low 0 some, subst (λ k. getD table k 0 ≡ getD row 0 0) (add-zero (c * items)) (own 0 some))) in
+      lt-ltb 0 _ (omega (arith, order .low 0 some, subst (λ k. getD table k 0 ≡ getD row 0 0) (add-zero (c * items)) (own 0 some))) in
       let whole = part items table row (c * items) (omega (arith, fits, same-length)) (order .each) own in
       cond-true _ _ _ (and-from _ _ known begun) ∙ ap Some whole
 
@@ -117,31 +117,31 @@ module _ (choosers items chooser n : ℕ) (xs row : List ℕ) (is : n ≡ items)
   other-order k ne some =
       let start = (k - 1) * items in
       ⊎-elim
-        (λ (listed : within k choosers ≡ true).
-          let apart : k - 1 ≡ c → ⊥ = λ e. ne (grind (arith, tells)) in
-          let old : List ℕ = take items (drop start xs) in
-          let last : start + items ≤ choosers * items = row-end (k - 1) choosers items (row-inside k choosers listed) in
-          let same : take items (drop start table) ≡ old =
-              part items table old start (omega (arith, same-length)) (simp (length-take, length-drop) (omega arith))
-              (λ i h. other (k - 1) apart i h ∙ sym (getD-take items (drop start xs) i 0 h ∙ getD-drop start xs i 0)) in
-          ap (λ x. cond (within k choosers && ltb 0 x) (Some (take items (drop start table))) None) (first (k - 1) apart some)
-          ∙ ap (λ ys. cond (within k choosers && ltb 0 (getD xs start 0)) (Some ys) None) same)
-        (λ (none : within k choosers ≡ false). cond-false _ _ _ (and-left _ _ none) ∙ sym (cond-false _ _ _ (and-left _ _ none)))
-        (cases-bool (within k choosers))
+      (λ (listed : within k choosers ≡ true).
+      let apart : k - 1 ≡ c → ⊥ = λ e. ne (grind (arith, tells)) in
+      let old : List ℕ = take items (drop start xs) in
+      let last : start + items ≤ choosers * items = row-end (k - 1) choosers items (row-inside k choosers listed) in
+      let same : take items (drop start table) ≡ old =
+      part items table old start (omega (arith, same-length)) (simp (length-take, length-drop) (omega arith))
+      (λ i h. other (k - 1) apart i h ∙ sym (getD-take items (drop start xs) i 0 h ∙ getD-drop start xs i 0)) in
+      ap (λ x. cond (within k choosers && ltb 0 x) (Some (take items (drop start table))) None) (first (k - 1) apart some)
+      ∙ ap (λ ys. cond (within k choosers && ltb 0 (getD xs start 0)) (Some ys) None) same)
+      (λ (none : within k choosers ≡ false). cond-false _ _ _ (and-left _ _ none) ∙ sym (cond-false _ _ _ (and-left _ _ none)))
+      (cases-bool (within k choosers))
 
   -- the table then holds the new order for the chooser, and for any other what it held
   pub written-orders : 0 < items → (k : ℕ) → orderAt choosers items table k ≡ cond (eqb k chooser) (Some row) (orderAt choosers items xs k)
   written-orders some k =
       ⊎-elim
-        (λ (e : k ≡ chooser).
-          subst (λ j. orderAt choosers items table j ≡ cond (eqb j chooser) (Some row) (orderAt choosers items xs j)) (sym e)
-          (own-order some ∙ sym (cond-true _ _ _ (eq-eqb chooser chooser refl))))
-        (λ (ne : k ≡ chooser → ⊥). other-order k ne some ∙ sym (cond-false _ _ _ (ne-eqb k chooser ne)))
-        (cases-eq k chooser)
+      (λ (e : k ≡ chooser).
+      subst (λ j. orderAt choosers items table j ≡ cond (eqb j chooser) (Some row) (orderAt choosers items xs j)) (sym e)
+      (own-order some ∙ sym (cond-true _ _ _ (eq-eqb chooser chooser refl))))
+      (λ (ne : k ≡ chooser → ⊥). other-order k ne some ∙ sym (cond-false _ _ _ (ne-eqb k chooser ne)))
+      (cases-eq k chooser)
 
 -- the place that the table holds
 pub place-kept : (choosers items : ℕ) (xs : List ℕ) (chooser item : ℕ) → within chooser choosers ≡ true → within item items ≡ true → 0 < getD xs ((chooser - 1) * items) 0
-  → placeIn (record { choosers = choosers; items = items; order = orderAt choosers items xs }) chooser item ≡ Some (getD xs ((chooser - 1) * items + (item - 1)) 0)
+    → placeIn (record { choosers = choosers; items = items; order = orderAt choosers items xs }) chooser item ≡ Some (getD xs ((chooser - 1) * items + (item - 1)) 0)
 place-kept choosers items xs chooser item known listed begun =
     let start = (chooser - 1) * items in
     let order = cond-true _ (Some (take items (drop start xs))) None (and-from _ _ known (lt-ltb 0 _ begun)) in

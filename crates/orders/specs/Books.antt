@@ -71,10 +71,10 @@ abbrev pub ReadInto : Result (List ℕ) CardFault → List ℕ → Result (Unit 
 ReadInto reading before (Ok _) after = reading ≡ Ok after
 ReadInto reading before (Err fault) after = (reading ≡ Err fault) × (after ≡ before)
 
--- The same for a chooser's card, told by whose it is.
-abbrev pub ReadFor : ℕ → Result (List ℕ) CardFault → Result (Unit {0}) RefusedCard → List ℕ → Type 0
-ReadFor chooser reading (Ok _) after = reading ≡ Ok after
-ReadFor chooser reading (Err card) after = (reading ≡ Err (card .fault)) × (card .chooser ≡ chooser)
+-- The same, where a refusal also tells whose card it was.
+abbrev pub ReadFor : ℕ → Result (List ℕ) CardFault → List ℕ → Result (Unit {0}) RefusedCard → List ℕ → Type 0
+ReadFor chooser reading before (Ok _) after = reading ≡ Ok after
+ReadFor chooser reading before (Err card) after = (reading ≡ Err (card .fault)) × (card .chooser ≡ chooser) × (after ≡ before)
 
 -- Clearing a book: what it answers, with the book before and after.
 abbrev pub Cleared : ℕ → ℕ → Meaning → Result (Unit {0}) BookFault → Meaning → Type 0

@@ -1,13 +1,14 @@
-// The interface to an order book: all that code above it may rest on.
+//! The interface to an order book: all that code above it may rest on.
+
 ghost use mathlib.Core.Path.{_≡_};
 ghost use Rattle.orders.specs.Books.{Meaning, Reading, ReadsOrders, Sound, Cleared, Entered, placeIn};
 use crate::fault::BookFault;
 
 pub trait OrderBook {
-    // How many choosers and items the book has, and each chooser's order or none.
+    /// How many choosers and items the book has, and each chooser's order or none.
     ghost meaning: { Self → Meaning };
 
-    // How its kind reads a card.
+    /// How its kind reads a card.
     ghost reading: { Self → Reading };
 
     law reads_orders: { (book : Self) → ReadsOrders (reading book) };

@@ -1,4 +1,5 @@
-// A book of any kind of card: a reader of cards over the one table.
+//! A book of any kind of card: a reader of cards over the one table.
+
 ghost use mathlib.Core.Bool.{true};
 ghost use mathlib.Core.Path.{_≡_};
 ghost use lib.ListN.{length};
@@ -18,9 +19,14 @@ pub struct CardBook<R> {
     table: OrderTable,
 }
 
-// Reads a card into a row, and tells whose card was refused.
-fn read_row<R: CardReader>(reader: &R, card: &[u8], chooser: usize, row: &mut [u16]) -> Result<(), RefusedCard>
-    ensures { λ r. ⌜ ReadFor chooser (R·CardReader .reads (now (reader .entry)) (length (now (row .entry))) chooser (now (card .entry))) r (now (row .exit)) ⌝ }
+/// Reads a card into a row, and tells whose card was refused.
+fn read_row<R: CardReader>(
+    reader: &R,
+    card: &[u8],
+    chooser: usize,
+    row: &mut [u16],
+) -> Result<(), RefusedCard>
+    ensures { λ r. ⌜ ReadFor chooser (R·CardReader .reads (now (reader .entry)) (length (now (row .entry))) chooser (now (card .entry))) (now (row .entry)) r (now (row .exit)) ⌝ }
 {
     match reader.read(card, chooser, row) {
         Ok(()) => Ok(()),
@@ -29,7 +35,7 @@ fn read_row<R: CardReader>(reader: &R, card: &[u8], chooser: usize, row: &mut [u
 }
 
 impl<R: CardReader> CardBook<R> {
-    // A fresh book has neither choosers nor items.
+    /// A fresh book has neither choosers nor items.
     pub fn new(reader: R) -> CardBook<R>
         ensures empty { λ r. ⌜ tableMeaning (r .table) ≡ blank 0 0 ⌝ }
         ensures kind { λ r. ⌜ r .reader ≡ reader ⌝ }
@@ -40,7 +46,7 @@ impl<R: CardReader> CardBook<R> {
         }
     }
 
-    // Enters the card of a chooser of the book, by way of a row with a place for each item.
+    /// Enters the card of a chooser of the book, by way of a row with a place for each item.
     fn enter_by(&mut self, chooser: usize, card: &[u8], row: &mut [u16]) -> Result<(), BookFault>
         requires { ⌜ (within chooser (now self .table .choosers) ≡ true) × (length (now row) ≡ now self .table .items) ⌝ }
         ensures entered { λ r. ⌜ Entered (R·CardReader .reads (now (self .entry) .reader)) chooser (now (card .entry)) (tableMeaning (now (self .entry) .table)) r (tableMeaning (now (self .exit) .table)) ⌝ }

@@ -1,16 +1,17 @@
-// Why a card or a call on a book is refused.
+//! Why a card or a call on a book is refused.
+
 ghost use mathlib.Core.Path.{_≡_};
 ghost use Rattle.orders.specs.Refusals.{cardRefusal, bookRefusal};
 ghost use Rattle.orders.specs.declared.fault.BookFault.the-variants.{Card};
 
-// What is wrong with a card. Entries are counted from 1.
+/// What is wrong with a card. Entries are counted from 1.
 #[derive(Clone, Copy, PartialEq, Eq, Debug)]
 pub enum CardFault {
-    // The card is not as long as its kind asks.
+    /// The card is not as long as its kind asks.
     Length,
-    // The entry is 0 or above the number of items.
+    /// The entry is 0 or above the number of items.
     OutOfRange { entry: usize },
-    // The entry names an item that an earlier entry names too.
+    /// The entry names an item that an earlier entry names too.
     Repeated { entry: usize },
 }
 
@@ -36,21 +37,21 @@ impl CardFault {
     }
 }
 
-// A refused card and whose it is.
+/// A refused card and whose it is.
 #[derive(Clone, Copy, PartialEq, Eq, Debug)]
 pub struct RefusedCard {
     pub chooser: usize,
     pub fault: CardFault,
 }
 
-// Why a call on a book is refused.
+/// Why a call on a book is refused.
 #[derive(Clone, Copy, PartialEq, Eq, Debug)]
 pub enum BookFault {
-    // The numbers of choosers and items are not those of a book.
+    /// The numbers of choosers and items are not those of a book.
     Size,
-    // The book has no chooser of that number.
+    /// The book has no chooser of that number.
     Chooser,
-    // The chooser's card is refused.
+    /// The chooser's card is refused.
     Card(RefusedCard),
 }
 

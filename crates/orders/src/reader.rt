@@ -1,4 +1,5 @@
-// A kind of card: how it is read.
+//! A kind of card: how it is read.
+
 ghost use lib.ListN.{length};
 ghost use Rattle.orders.specs.Books.{Reading, ReadsOrders, ReadInto};
 use crate::fault::CardFault;
@@ -8,8 +9,8 @@ pub trait CardReader {
 
     law reads_orders: { (reader : Self) → ReadsOrders (reads reader) };
 
-    // Reads the chooser's card for as many items as the row has places. The row then holds the
-    // places of the items; a refused card leaves it as it was.
+    /// Reads the chooser's card for as many items as the row has places. The row then holds the
+    /// places of the items; a refused card leaves it as it was.
     fn read(&self, card: &[u8], chooser: usize, row: &mut [u16]) -> Result<(), CardFault>
         ensures { λ r. ⌜ ReadInto (reads (now (self .entry)) (length (now (row .entry))) chooser (now (card .entry))) (now (row .entry)) r (now (row .exit)) ⌝ };
 }

@@ -1,15 +1,15 @@
-// The one table that keeps orders, whatever kind of card they came from.
+//! The one table that keeps orders, whatever kind of card they came from.
+
 ghost use mathlib.Core.Path.{_≡_};
 ghost use Prim.Native.Nat.{_*_, _≤_};
 ghost use lib.ListN.{length};
 ghost use Rattle.orders.specs.Rows.{Low, High, Apart};
-
 use crate::limits::PLACES;
 
 mod calls;
 
-// Row after row, the places that each chooser gives the items. A row that begins with 0 is that of
-// a chooser without an order.
+/// Row after row, the places that each chooser gives the items. A row that begins with 0 is that of
+/// a chooser without an order.
 #[derive(Drop)]
 pub struct OrderTable {
     choosers: usize,

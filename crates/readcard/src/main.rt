@@ -1,5 +1,6 @@
-// readcard KIND ITEMS: reads the card on standard input into an order book, and prints the place
-// of each item, or the number and place of the refusal.
+//! readcard KIND ITEMS: reads the card on standard input into an order book, and prints the place
+//! of each item, or the number and place of the refusal.
+
 ghost use mathlib.Core.Path.{_≡_};
 ghost use Rattle.readcard.specs.Asked.{Named, SoleCard};
 use cards::points::Points;
@@ -30,7 +31,7 @@ fn kind_of(word: &str) -> Option<Kind>
     }
 }
 
-// Reads a card as that of the only chooser of a book.
+/// Reads a card as that of the only chooser of a book.
 fn read_sole<B: OrderBook>(book: &mut B, items: usize, card: &[u8]) -> Result<(), BookFault>
     ensures { λ r. ⌜ SoleCard (B·OrderBook .reading (now (book .entry))) items (now (card .entry)) r (B·OrderBook .meaning (now (book .exit))) ⌝ }
 {
@@ -48,7 +49,12 @@ fn print_places<B: OrderBook>(rt: &LibcRuntime, book: &B) -> Result<(), AnyError
     Ok(())
 }
 
-fn answer<B: OrderBook>(rt: &LibcRuntime, book: &mut B, items: usize, card: &[u8]) -> Result<(), AnyError> {
+fn answer<B: OrderBook>(
+    rt: &LibcRuntime,
+    book: &mut B,
+    items: usize,
+    card: &[u8],
+) -> Result<(), AnyError> {
     match read_sole(book, items, card) {
         Ok(()) => print_places(rt, book),
         Err(fault) => {

@@ -31,11 +31,11 @@ module _ (f : ℕ → ℕ) where
   position-is x zero h = absurd (omega arith)
   position-is x (suc n) h =
       ⊎-elim
-        (λ (e : f n ≡ x). ap f (omega (arith, position-here x n e)) ∙ e)
-        (λ (ne : f n ≡ x → ⊥).
-          let same = position-past x n ne in
-          ap (λ k. f (k - 1)) same ∙ position-is x n (omega (arith, same, h)))
-        (cases-eq (f n) x)
+      (λ (e : f n ≡ x). ap f (omega (arith, position-here x n e)) ∙ e)
+      (λ (ne : f n ≡ x → ⊥).
+      let same = position-past x n ne in
+      ap (λ k. f (k - 1)) same ∙ position-is x n (omega (arith, same, h)))
+      (cases-eq (f n) x)
 
   -- x + 1 stands somewhere before n
   abbrev stands : ℕ → ℕ → Bool
@@ -51,7 +51,7 @@ module _ (f : ℕ → ℕ) where
       let before : stands n y ≡ false = le-ltb 0 _ (omega (arith, ap (λ x. position f x n) back, last .2)) in
       let after : stands (suc n) y ≡ true = lt-ltb 0 _ (omega (arith, position-here (y + 1) n (sym back))) in
       let rest : (k : ℕ) → k < m → (k ≡ y → ⊥) → stands n k ≡ stands (suc n) k =
-          λ k l ne. ap (ltb 0) (sym (position-past (k + 1) n (λ e. ne (omega (arith, e, back))))) in
+      λ k l ne. ap (ltb 0) (sym (position-past (k + 1) n (λ e. ne (omega (arith, e, back))))) in
       omega (arith, tally-one-more (stands n) (stands (suc n)) m y (omega (arith, last .0, last .1)) before after rest, count-different m n (λ k l. each k (omega arith)))
 
   -- n different values from 1 to n are all of them
@@ -62,10 +62,10 @@ module _ (f : ℕ → ℕ) where
   pub position-more : (xs : List ℕ) (i k y : ℕ) → y + 1 ≡ f k → y < length xs → getD xs i 0 ≡ position f (i + 1) k → getD (set xs y (k + 1)) i 0 ≡ position f (i + 1) (k + 1)
   position-more xs i k y named within held =
       ⊎-elim
-        (λ (e : i ≡ y).
-          let here : position f (i + 1) (suc k) ≡ suc k = position-here (i + 1) k (omega (arith, named, e)) in
-          rw (add-one k) (ap (λ j. getD (set xs y (suc k)) j 0) e ∙ getD-set-same xs y (suc k) 0 within ∙ sym here))
-        (λ (ne : i ≡ y → ⊥).
-          let past : position f (i + 1) (suc k) ≡ position f (i + 1) k = position-past (i + 1) k (λ e. ne (omega (arith, named, e))) in
-          rw (add-one k) (getD-set-other xs y i (suc k) 0 ne ∙ held ∙ sym past))
-        (cases-eq i y)
+      (λ (e : i ≡ y).
+      let here : position f (i + 1) (suc k) ≡ suc k = position-here (i + 1) k (omega (arith, named, e)) in
+      rw (add-one k) (ap (λ j. getD (set xs y (suc k)) j 0) e ∙ getD-set-same xs y (suc k) 0 within ∙ sym here))
+      (λ (ne : i ≡ y → ⊥).
+      let past : position f (i + 1) (suc k) ≡ position f (i + 1) k = position-past (i + 1) k (λ e. ne (omega (arith, named, e))) in
+      rw (add-one k) (getD-set-other xs y i (suc k) 0 ne ∙ held ∙ sym past))
+      (cases-eq i y)

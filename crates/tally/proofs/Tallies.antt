@@ -26,13 +26,13 @@ tally-strict p q zero y l fails passes h = omega arith
 tally-strict p q (suc n) y l fails passes h =
     let below : (k : ℕ) → k < n → p k ≡ true → q k ≡ true = λ k m. h k (omega arith) in
     ⊎-elim
-      (λ (e : y ≡ n).
-        let pn : one (p n) ≡ 0 = ap (λ k. one (p k)) (sym e) ∙ ap one fails in
-        let qn : one (q n) ≡ 1 = ap (λ k. one (q k)) (sym e) ∙ ap one passes in
-        omega (arith, tally-mono p q n below))
-      (λ (ne : y ≡ n → ⊥).
-        omega (arith, one-mono (p n) (q n) (h n (omega arith)), tally-strict p q n y (⊎-elim (λ (z : y < n). z) (λ (z : n ≤ y). absurd (ne (omega arith))) (cases-lt y n)) fails passes below))
-      (cases-eq y n)
+    (λ (e : y ≡ n).
+    let pn : one (p n) ≡ 0 = ap (λ k. one (p k)) (sym e) ∙ ap one fails in
+    let qn : one (q n) ≡ 1 = ap (λ k. one (q k)) (sym e) ∙ ap one passes in
+    omega (arith, tally-mono p q n below))
+    (λ (ne : y ≡ n → ⊥).
+    omega (arith, one-mono (p n) (q n) (h n (omega arith)), tally-strict p q n y (⊎-elim (λ (z : y < n). z) (λ (z : n ≤ y). absurd (ne (omega arith))) (cases-lt y n)) fails passes below))
+    (cases-eq y n)
 
 pub tally-always : (n : ℕ) → tally (λ _. true) n ≡ n
 tally-always zero = refl
@@ -60,14 +60,14 @@ pub tally-one-more : (p q : ℕ → Bool) (n y : ℕ) → y < n → p y ≡ fals
 tally-one-more p q zero y l fails passes h = absurd (omega arith)
 tally-one-more p q (suc n) y l fails passes h =
     ⊎-elim
-      (λ (e : y ≡ n).
-        let pn : one (p n) ≡ 0 = ap (λ k. one (p k)) (sym e) ∙ ap one fails in
-        let qn : one (q n) ≡ 1 = ap (λ k. one (q k)) (sym e) ∙ ap one passes in
-        omega (arith, tally-same p q n (λ k m. h k (omega arith) (λ z. omega arith))))
-      (λ (ne : y ≡ n → ⊥).
-        let m : y < n = ⊎-elim (λ (z : y < n). z) (λ (z : n ≤ y). absurd (ne (omega arith))) (cases-lt y n) in
-        omega (arith, ap one (h n (omega arith) (λ z. ne (sym z))), tally-one-more p q n y m fails passes (λ k z. h k (omega arith))))
-      (cases-eq y n)
+    (λ (e : y ≡ n).
+    let pn : one (p n) ≡ 0 = ap (λ k. one (p k)) (sym e) ∙ ap one fails in
+    let qn : one (q n) ≡ 1 = ap (λ k. one (q k)) (sym e) ∙ ap one passes in
+    omega (arith, tally-same p q n (λ k m. h k (omega arith) (λ z. omega arith))))
+    (λ (ne : y ≡ n → ⊥).
+    let m : y < n = ⊎-elim (λ (z : y < n). z) (λ (z : n ≤ y). absurd (ne (omega arith))) (cases-lt y n) in
+    omega (arith, ap one (h n (omega arith) (λ z. ne (sym z))), tally-one-more p q n y m fails passes (λ k z. h k (omega arith))))
+    (cases-eq y n)
 
 -- a loop's step
 pub tally-more-yes : (p : ℕ → Bool) (n : ℕ) → p n ≡ true → tally p (n + 1) ≡ tally p n + 1

@@ -1,4 +1,5 @@
-// The calls on the table.
+//! The calls on the table.
+
 ghost use mathlib.Core.Path.{_≡_};
 ghost use mathlib.Core.Bool.{true};
 ghost use Prim.Native.Nat.{_*_, _≤_};
@@ -16,7 +17,7 @@ fn sizes_fit(choosers: usize, items: usize) -> bool
 }
 
 impl OrderTable {
-    // A table in which nobody has an order.
+    /// A table in which nobody has an order.
     fn blank(choosers: usize, items: usize) -> OrderTable
         requires { ⌜ (choosers ≤ 432) × (items ≤ 432) × (1 ≤ choosers → 1 ≤ items) × (choosers * items ≤ 6912) ⌝ }
         ensures { λ r. ⌜ tableMeaning r ≡ blank choosers items ⌝ }
@@ -62,7 +63,7 @@ impl OrderTable {
         Ok(())
     }
 
-    // Makes the row the chooser's order.
+    /// Makes the row the chooser's order.
     pub fn keep(&mut self, chooser: usize, row: &[u16])
         requires { ⌜ (within chooser (now self .choosers) ≡ true) × IsOrder (now self .items) (now row) ⌝ }
         ensures { λ _. ⌜ tableMeaning (now (self .exit)) ≡ entered (tableMeaning (now (self .entry))) chooser (now (row .entry)) ⌝ }

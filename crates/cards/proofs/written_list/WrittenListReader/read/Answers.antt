@@ -18,6 +18,6 @@ returns c =
     let placed = c .in-Continue-places .ensures tt in
     let after = c .copy-from-slice .ensures .after in
     cond-true _ _ _ (c .in-Continue-check-length .ensures tt)
-    ∙ ap (λ fault. unless fault (listPlaces n card)) (placed .0)
+    ∙ ap (λ fault. unless fault (listPlaces n card)) (placed .1 .good)
     ∙ ap Ok (sym (fill-by-all f (c .copy-from-slice .last .self) n 0 (c .copy-from-slice .ensures .len)
-      (λ k h. ap (λ ys. getD ys k 0) after ∙ getD-take _ (c .in-Continue-places .places) k 0 (omega arith) ∙ placed .2 k h)))
+    (λ k h. ap (λ ys. getD ys k 0) after ∙ getD-take _ (c .in-Continue-places .places) k 0 (omega arith) ∙ placed .1 .held k h)))

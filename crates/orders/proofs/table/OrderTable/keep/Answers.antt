@@ -20,15 +20,28 @@ ghost-self c =
     let row = c .copy-from-slice .last .self in
     let room : self .choosers * self .items ≤ length (self .places) = omega arith in
     let is = add-sub-cancel-left ((c .args .chooser - 1) * self .items) (self .items) in
-    let order = subst (λ ys. IsOrder (self .items) ys) (sym (c .copy-from-slice .ensures .after)) (c .pre .1) in
-    ( self .«few_choosers»,
-      (self .«few_items»,
-        (self .«some_items»,
-          (self .«few_places»,
-            (same-length (self .choosers) (self .items) (c .args .chooser) _ (self .places) row is (c .pre .0) room order ∙ self .long,
-              (written-low (self .choosers) (self .items) (c .args .chooser) _ (self .places) row is (c .pre .0) room order (self .low),
-                (written-high (self .choosers) (self .items) (c .args .chooser) _ (self .places) row is (c .pre .0) room order (self .high),
-                  (written-apart (self .choosers) (self .items) (c .args .chooser) _ (self .places) row is (c .pre .0) room order (self .apart), tt))))))))
+    let order = subst (λ ys. IsOrder (self .items) ys) (sym (c .copy-from-slice .ensures .after)) (c .pre .1) in (
+      self .«few_choosers»,
+      (
+        self .«few_items»,
+        (
+          self .«some_items»,
+          (
+            self .«few_places»,
+            (
+              same-length (self .choosers) (self .items) (c .args .chooser) _ (self .places) row is (c .pre .0) room order ∙ self .long,
+              (
+                written-low (self .choosers) (self .items) (c .args .chooser) _ (self .places) row is (c .pre .0) room order (self .low),
+                (
+                  written-high (self .choosers) (self .items) (c .args .chooser) _ (self .places) row is (c .pre .0) room order (self .high),
+                  (written-apart (self .choosers) (self .items) (c .args .chooser) _ (self .places) row is (c .pre .0) room order (self .apart), tt),
+                ),
+              ),
+            ),
+          ),
+        ),
+      ),
+    )
 
 pub returns : need.returns
 returns c =
@@ -38,5 +51,5 @@ returns c =
     let is = add-sub-cancel-left ((c .args .chooser - 1) * self .items) (self .items) in
     let order = subst (λ ys. IsOrder (self .items) ys) (sym (c .copy-from-slice .ensures .after)) (c .pre .1) in
     ap (λ orders. record { choosers = self .choosers; items = self .items; order = orders })
-      (fun-ext (written-orders (self .choosers) (self .items) (c .args .chooser) _ (self .places) row is (c .pre .0) room order (grind (arith, tells))))
+    (fun-ext (written-orders (self .choosers) (self .items) (c .args .chooser) _ (self .places) row is (c .pre .0) room order (grind (arith, tells))))
     ∙ ap (entered (tableMeaning self) (c .args .chooser)) (c .copy-from-slice .ensures .after)
