@@ -3,7 +3,8 @@
 ghost use mathlib.Core.Path.{_≡_};
 ghost use Prim.Native.Nat.{_*_, _<_, _≤_};
 ghost use lib.ListN.{length};
-ghost use Rattle.cards.specs.Readings.{listReading};
+ghost use Rattle.orders.specs.Books.{ReadInto};
+ghost use Rattle.cards.specs.Readings.{listOrFault, listReading};
 ghost use Rattle.cards.specs.Steps.{EntryRead, Listed, ListedTo};
 use crate::entry::check_length;
 use crate::entry::entry;
@@ -47,13 +48,21 @@ fn places_of(card: &[u8], items: usize) -> Result<[u16; MOST], CardFault>
     Ok(places)
 }
 
+/// Reads a card of the right length into a row; a refused card leaves it as it was.
+fn fill_row(card: &[u8], row: &mut [u16]) -> Result<(), CardFault>
+    requires { ⌜ (length (now row) ≤ 432) × (length (now card) ≡ 2 * length (now row)) ⌝ }
+    ensures { λ r. ⌜ ReadInto (listOrFault (length (now (row .entry))) (now (card .entry))) (now (row .entry)) r (now (row .exit)) ⌝ }
+{
+    let places = places_of(card, row.len())?;
+    row.copy_from_slice(&places[0..row.len()]);
+    Ok(())
+}
+
 pub impl CardReader for WrittenList as WrittenListReader {
     ghost reads = { λ _. listReading };
 
     fn read(&self, card: &[u8], _chooser: usize, row: &mut [u16]) -> Result<(), CardFault> {
         check_length(card, row.len())?;
-        let places = places_of(card, row.len())?;
-        row.copy_from_slice(&places[0..row.len()]);
-        Ok(())
+        fill_row(card, row)
     }
 }

@@ -79,7 +79,7 @@ pub impl<R: CardReader> OrderBook for CardBook<R> as CardBookOrders {
         if !self.table.has(chooser) {
             return Err(BookFault::Chooser);
         }
-        let items = self.table.items();
+        let items = self.items();
         let mut row = [0; MOST];
         self.enter_by(chooser, card, &mut row[0..items])
     }

@@ -80,7 +80,7 @@ impl BookFault {
 pub impl From<RefusedCard> for BookFault as BookFaultFromCard {
     ghost converts = { λ card r. r ≡ Card card };
 
-    fn from(card: RefusedCard) -> BookFault {
-        BookFault::Card(card)
+    fn from(refused: RefusedCard) -> BookFault {
+        BookFault::Card(refused)
     }
 }

@@ -2,7 +2,9 @@
 //! of each item, or the number and place of the refusal.
 
 ghost use mathlib.Core.Path.{_≡_};
+ghost use Rattle.std.specs.declared.option.Option.the-variants.{Some};
 ghost use Rattle.readcard.specs.Asked.{Named, SoleCard};
+ghost use Rattle.readcard.specs.Printed.{printed};
 use cards::points::Points;
 use cards::points::PointsReader;
 use cards::written_list::WrittenList;
@@ -13,6 +15,7 @@ use orders::card_book::CardBookOrders;
 use orders::fault::BookFault;
 use std::env;
 use std::error::AnyError;
+use std::fmt;
 use std::io::Read;
 
 #[derive(Clone, Copy)]
@@ -39,11 +42,35 @@ fn read_sole<B: OrderBook>(book: &mut B, items: usize, card: &[u8]) -> Result<()
     book.enter(1, card)
 }
 
+/// A line of the printed answer.
+#[derive(Clone, Copy)]
+enum Line {
+    Ok,
+    Place { item: usize, place: u16 },
+    Refused(BookFault),
+}
+
+impl fmt::Display for Line as LineDisplay {
+    ghost shown = { λ line. Some (printed line) };
+
+    fn fmt<W: fmt::Write>(&self, f: &mut fmt::Formatter<W>) -> fmt::Result {
+        match self {
+            Line::Ok => write!(f, "ok"),
+            Line::Place { item, place } => write!(f, "item {item} place {place}"),
+            Line::Refused(fault) => {
+                let number = fault.number();
+                let place = fault.place();
+                write!(f, "refused {number} at {place}")
+            }
+        }
+    }
+}
+
 fn print_places<B: OrderBook>(rt: &LibcRuntime, book: &B) -> Result<(), AnyError> {
-    println!(rt, "ok")?;
+    rt.println(Line::Ok)?;
     for item in 1..=book.items() {
         if let Some(place) = book.place(1, item) {
-            println!(rt, "item {item} place {place}")?;
+            rt.println(Line::Place { item, place })?;
         }
     }
     Ok(())
@@ -58,9 +85,7 @@ fn answer<B: OrderBook>(
     match read_sole(book, items, card) {
         Ok(()) => print_places(rt, book),
         Err(fault) => {
-            let number = fault.number();
-            let place = fault.place();
-            println!(rt, "refused {number} at {place}")?;
+            rt.println(Line::Refused(fault))?;
             Ok(())
         }
     }
