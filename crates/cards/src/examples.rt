@@ -5,5 +5,4 @@ ghost use Rattle.cards.specs.Worked.{WorkedCards};
 /// Small cards are read and refused as worked by hand.
 pub fn worked_cards()
     ensures { λ _. ⌜ WorkedCards ⌝ }
-{
-}
+{}
