@@ -9,7 +9,7 @@ ghost use Rattle.cards.specs.Steps.{Measured};
 use orders::fault::CardFault;
 use orders::limits::MOST;
 
-pub fn check_length(card: &[u8], items: usize) -> Result<(), CardFault>
+pub(crate) fn check_length(card: &[u8], items: usize) -> Result<(), CardFault>
     ensures { λ r. ⌜ Measured items (now (card .entry)) r ⌝ }
 {
     if items > MOST || card.len() != 2 * items {
@@ -19,7 +19,7 @@ pub fn check_length(card: &[u8], items: usize) -> Result<(), CardFault>
 }
 
 /// Entry k, counted from 0.
-pub fn entry(card: &[u8], k: usize) -> u16
+pub(crate) fn entry(card: &[u8], k: usize) -> u16
     requires { ⌜ 2 * k + 1 < length (now card) ⌝ }
     ensures { λ r. ⌜ r ≡ entryAt (now (card .entry)) k ⌝ }
 {

@@ -24,13 +24,19 @@ mod tests {
         }
     }
 
+    // A line of 4, 9 and 2.
+    fn full_line(slots: &mut [u16]) -> Result<Line, Fail> {
+        let mut line = Line::new();
+        line.put(slots, 4)?;
+        line.put(slots, 9)?;
+        line.put(slots, 2)?;
+        Ok(line)
+    }
+
     #[test]
     fn full_line_refuses() -> Result<(), Fail> {
         let mut slots = [0u16; 3];
-        let mut line = Line::new();
-        line.put(&mut slots, 4)?;
-        line.put(&mut slots, 9)?;
-        line.put(&mut slots, 2)?;
+        let mut line = full_line(&mut slots)?;
         check_full(line.put(&mut slots, 8), 3)?;
         check_eq(slots, [4, 9, 2])?;
         check_eq(line.len(&slots), 3)?;
@@ -40,10 +46,7 @@ mod tests {
     #[test]
     fn vacated_places_are_used_again() -> Result<(), Fail> {
         let mut slots = [0u16; 3];
-        let mut line = Line::new();
-        line.put(&mut slots, 4)?;
-        line.put(&mut slots, 9)?;
-        line.put(&mut slots, 2)?;
+        let mut line = full_line(&mut slots)?;
         check_eq(line.take(&slots), Some(4))?;
         check_eq(line.take(&slots), Some(9))?;
         line.put(&mut slots, 8)?;

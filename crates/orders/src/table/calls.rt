@@ -29,31 +29,31 @@ impl OrderTable {
         }
     }
 
-    pub fn new() -> OrderTable
+    pub(crate) fn new() -> OrderTable
         ensures { λ r. ⌜ tableMeaning r ≡ blank 0 0 ⌝ }
     {
         OrderTable::blank(0, 0)
     }
 
-    pub fn choosers(&self) -> usize
+    pub(crate) fn choosers(&self) -> usize
         ensures { λ r. ⌜ r ≡ tableMeaning (now (self .entry)) .choosers ⌝ }
     {
         self.choosers
     }
 
-    pub fn items(&self) -> usize
+    pub(crate) fn items(&self) -> usize
         ensures { λ r. ⌜ r ≡ tableMeaning (now (self .entry)) .items ⌝ }
     {
         self.items
     }
 
-    pub fn has(&self, chooser: usize) -> bool
+    pub(crate) fn has(&self, chooser: usize) -> bool
         ensures { λ r. ⌜ r ≡ within chooser (now (self .entry) .choosers) ⌝ }
     {
         1 <= chooser && chooser <= self.choosers
     }
 
-    pub fn clear(&mut self, choosers: usize, items: usize) -> Result<(), BookFault>
+    pub(crate) fn clear(&mut self, choosers: usize, items: usize) -> Result<(), BookFault>
         ensures { λ r. ⌜ Cleared choosers items (tableMeaning (now (self .entry))) r (tableMeaning (now (self .exit))) ⌝ }
     {
         if !sizes_fit(choosers, items) {
@@ -64,7 +64,7 @@ impl OrderTable {
     }
 
     /// Makes the row the chooser's order.
-    pub fn keep(&mut self, chooser: usize, row: &[u16])
+    pub(crate) fn keep(&mut self, chooser: usize, row: &[u16])
         requires { ⌜ (within chooser (now self .choosers) ≡ true) × IsOrder (now self .items) (now row) ⌝ }
         ensures { λ _. ⌜ tableMeaning (now (self .exit)) ≡ entered (tableMeaning (now (self .entry))) chooser (now (row .entry)) ⌝ }
     {
@@ -73,7 +73,7 @@ impl OrderTable {
         self.places[start..end].copy_from_slice(row);
     }
 
-    pub fn place(&self, chooser: usize, item: usize) -> Option<u16>
+    pub(crate) fn place(&self, chooser: usize, item: usize) -> Option<u16>
         ensures { λ r. ⌜ r ≡ placeIn (tableMeaning (now (self .entry))) chooser item ⌝ }
     {
         if !self.has(chooser) || item < 1 || item > self.items {
