@@ -4,8 +4,8 @@ use Prim.Native.Nat.{ℕ}
 use lib.Chars.{codes}
 use Rattle.std.specs.Written.{decimal}
 use Rattle.orders.specs.Refusals.{bookRefusal}
-use Rattle.readcard.specs.declared.Line.{Line}
-use Rattle.readcard.specs.declared.Line.the-variants.{Ok, Place, Refused}
+use Rattle.readcard.specs.declared.line.Line.{Line}
+use Rattle.readcard.specs.declared.line.Line.the-variants.{Ok, Place, Refused}
 
 abbrev pub printed : Line → List ℕ
 printed Ok = codes "ok"

@@ -16,11 +16,13 @@ returns-then-item-lt1 c =
     (first-out (c .args .items) (c .args .card .now) (c .args .k) (c .args .items) (c .pre .before .0) (c .pre .before .1 .good) outside, refl)
 
 pub returns-then-places-item-ne0 : need.returns-then-places-item-ne0
-returns-then-places-item-ne0 c =
-    (repeats (c .args .items) (c .args .k) (c .entry-item .result) (c .args .card .now) (c .args .places .now) (c .entry-item .ensures)
-      (c .if-item-lt1 .left) (c .if-item-items .left) (c .pre .before .1) (c .pre .before .0) (c .if-places-item-ne0 .taken), refl)
+returns-then-places-item-ne0 c = (
+  repeats (c .args .items) (c .args .k) (c .entry-item .result) (c .args .card .now) (c .args .places .now) (c .entry-item .ensures)
+      (c .if-item-lt1 .left) (c .if-item-items .left) (c .pre .before .1) (c .pre .before .0) (c .if-places-item-ne0 .taken),
+  refl,
+)
 
 pub returns : need.returns
 returns c =
     listed-more (c .args .items) (c .args .k) (c .entry-item .result) (c .args .card .now) (c .args .places .now) (c .entry-item .ensures)
-      (c .if-item-lt1 .left) (c .if-item-items .left) (c .pre .before .1) (c .if-places-item-ne0 .left) (c .pre .sizes .2)
+    (c .if-item-lt1 .left) (c .if-item-items .left) (c .pre .before .1) (c .if-places-item-ne0 .left) (c .pre .sizes .2)
