@@ -13,9 +13,11 @@ use orders::fault::CardFault;
 use orders::limits::MOST;
 use orders::reader::CardReader;
 
+/// The kind of card that lists the items from best to worst.
 #[derive(Clone, Copy)]
 pub struct WrittenList;
 
+/// An order book of written lists.
 pub type ListBook = CardBook<WrittenList>;
 
 /// Reads entry k, counted from 0, behind entries that are good. An item's place is 0 until an entry

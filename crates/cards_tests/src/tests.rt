@@ -14,6 +14,7 @@ use orders::fault::CardFaultPartialEq;
 use orders::fault::RefusedCard;
 use orders::fault::RefusedCardDebug;
 use orders::fault::RefusedCardPartialEq;
+use orders::reader::CardReader;
 use std::test::*;
 
 /// A card of three entries below 256.
@@ -228,6 +229,35 @@ fn a_book_cleared_again_forgets_all() -> Result<(), Fail> {
     book.enter(2, &card([9, 7, 8]))?;
     empty(&book, 1)?;
     holds(&book, 2, [1, 3, 2])
+}
+
+#[test]
+fn a_refused_reading_leaves_the_row() -> Result<(), Fail> {
+    let mut row = [7u16; 3];
+    check_eq(
+        WrittenList.read(&card([2, 1, 2]), 1, &mut row),
+        Err(CardFault::Repeated { entry: 3 }),
+    )?;
+    check_eq(row, [7, 7, 7])?;
+    check_eq(Points.read(&[0, 1], 1, &mut row), Err(CardFault::Length))?;
+    check_eq(row, [7, 7, 7])?;
+    WrittenList.read(&card([2, 3, 1]), 1, &mut row)?;
+    check_eq(row, [3, 1, 2])
+}
+
+#[test]
+fn a_row_of_no_book_is_asked_for_no_card() -> Result<(), Fail> {
+    let mut row = [7u16; 433];
+    check_eq(
+        WrittenList.read(&[0; 866], 1, &mut row),
+        Err(CardFault::Length),
+    )?;
+    check_eq(Points.read(&[0; 866], 1, &mut row), Err(CardFault::Length))?;
+    for place in row {
+        check_eq(place, 7)?;
+    }
+    Points.read(&[], 1, &mut [])?;
+    Ok(())
 }
 
 /// The list of all 432 items from the last to the first.

@@ -13,6 +13,7 @@ use crate::limits::MOST;
 use crate::reader::CardReader;
 use crate::table::OrderTable;
 
+/// An order book whose cards are read by `R`.
 #[derive(Drop)]
 pub struct CardBook<R> {
     reader: R,

@@ -16,6 +16,7 @@ pub enum CardFault {
 }
 
 impl CardFault {
+    /// The number by which the refusal is told.
     pub fn number(&self) -> u8
         ensures { λ r. ⌜ r ≡ cardRefusal (now (self .entry)) .number ⌝ }
     {
@@ -26,6 +27,7 @@ impl CardFault {
         }
     }
 
+    /// Where on the card: the entry, or 0.
     pub fn place(&self) -> usize
         ensures { λ r. ⌜ r ≡ cardRefusal (now (self .entry)) .place ⌝ }
     {
@@ -56,6 +58,7 @@ pub enum BookFault {
 }
 
 impl BookFault {
+    /// The number by which the refusal is told.
     pub fn number(&self) -> u8
         ensures { λ r. ⌜ r ≡ bookRefusal (now (self .entry)) .number ⌝ }
     {
@@ -66,6 +69,7 @@ impl BookFault {
         }
     }
 
+    /// The card's entry, or 0.
     pub fn place(&self) -> usize
         ensures { λ r. ⌜ r ≡ bookRefusal (now (self .entry)) .place ⌝ }
     {

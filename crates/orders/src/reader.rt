@@ -4,9 +4,12 @@ ghost use lib.ListN.{length};
 ghost use Rattle.orders.specs.Books.{Reading, ReadsOrders, ReadInto};
 use crate::fault::CardFault;
 
+/// A way to read cards.
 pub trait CardReader {
+    /// What a card is read as: an order, or a fault.
     ghost reads: { Self → Reading };
 
+    /// What is read is always an order.
     law reads_orders: { (reader : Self) → ReadsOrders (reads reader) };
 
     /// Reads the chooser's card for as many items as the row has places. The row then holds the

@@ -18,7 +18,7 @@ fn sizes_fit(choosers: usize, items: usize) -> bool
 
 impl OrderTable {
     /// A table in which nobody has an order.
-    fn blank(choosers: usize, items: usize) -> OrderTable
+    fn without_orders(choosers: usize, items: usize) -> OrderTable
         requires { ⌜ (choosers ≤ 432) × (items ≤ 432) × (1 ≤ choosers → 1 ≤ items) × (choosers * items ≤ 6912) ⌝ }
         ensures { λ r. ⌜ tableMeaning r ≡ blank choosers items ⌝ }
     {
@@ -32,7 +32,7 @@ impl OrderTable {
     pub(crate) fn new() -> OrderTable
         ensures { λ r. ⌜ tableMeaning r ≡ blank 0 0 ⌝ }
     {
-        OrderTable::blank(0, 0)
+        OrderTable::without_orders(0, 0)
     }
 
     pub(crate) fn choosers(&self) -> usize
@@ -47,6 +47,7 @@ impl OrderTable {
         self.items
     }
 
+    /// Whether there is a chooser of that number.
     pub(crate) fn has(&self, chooser: usize) -> bool
         ensures { λ r. ⌜ r ≡ within chooser (now (self .entry) .choosers) ⌝ }
     {
@@ -59,7 +60,7 @@ impl OrderTable {
         if !sizes_fit(choosers, items) {
             return Err(BookFault::Size);
         }
-        *self = OrderTable::blank(choosers, items);
+        *self = OrderTable::without_orders(choosers, items);
         Ok(())
     }
 

@@ -1,7 +1,7 @@
 use mathlib.Core.Path.{refl, ap, fun-ext}
 use Rattle.orders.specs.Books.{Meaning}
 use Rattle.orders.proofs.Blank.{zeros-low, zeros-high, zeros-apart, zeros-order}
-use Rattle.orders.proofs.table.OrderTable.blank.Needs as need
+use Rattle.orders.proofs.table.OrderTable.without_orders.Needs as need
 
 pub ghost-result : need.ghost-result
 ghost-result c =
