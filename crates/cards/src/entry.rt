@@ -4,13 +4,14 @@ ghost use mathlib.Core.Path.{_≡_};
 ghost use mathlib.Core.Bool.{true};
 ghost use Prim.Native.Nat.{_+_, _*_, _<_};
 ghost use lib.ListN.{length};
-ghost use Rattle.cards.specs.Readings.{entryAt};
-ghost use Rattle.cards.specs.Steps.{Measured};
+ghost use Rattle.orders.specs.declared.fault.CardFault.the-variants.{Length};
+ghost use Rattle.cards.specs.Readings.{entryAt, measures};
+ghost use Rattle.cards.specs.Steps.{Checked};
 use orders::fault::CardFault;
 use orders::limits::MOST;
 
 pub(crate) fn check_length(card: &[u8], items: usize) -> Result<(), CardFault>
-    ensures { λ r. ⌜ Measured items (now (card .entry)) r ⌝ }
+    ensures { λ r. ⌜ Checked (measures items (now (card .entry))) Length r ⌝ }
 {
     if items > MOST || card.len() != 2 * items {
         return Err(CardFault::Length);

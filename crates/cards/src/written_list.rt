@@ -1,11 +1,13 @@
 //! Written lists: the items from best to worst, every item once.
 
 ghost use mathlib.Core.Path.{_≡_};
-ghost use Prim.Native.Nat.{_*_, _<_, _≤_};
+ghost use Prim.Native.Nat.{_+_, _*_, _<_, _≤_};
+ghost use lib.Dec.{eqb};
 ghost use lib.ListN.{length};
-ghost use Rattle.orders.specs.Books.{ReadInto};
+ghost use Rattle.orders.specs.Books.{ReadInto, within};
+ghost use Rattle.orders.specs.declared.fault.CardFault.the-variants.{OutOfRange, Repeated};
 ghost use Rattle.cards.specs.Readings.{listOrFault, listReading};
-ghost use Rattle.cards.specs.Steps.{EntryRead, Listed, ListedTo};
+ghost use Rattle.cards.specs.Steps.{Checked, EntryRead, Listed, ListedTo};
 use crate::entry::check_length;
 use crate::entry::entry;
 use orders::card_book::CardBook;
@@ -20,6 +22,28 @@ pub struct WrittenList;
 /// An order book of written lists.
 pub type ListBook = CardBook<WrittenList>;
 
+/// Refuses entry k where it names no item.
+fn check_range(item: usize, items: usize, k: usize) -> Result<(), CardFault>
+    requires { ⌜ k < items ⌝ }
+    ensures { λ r. ⌜ Checked (within item items) (OutOfRange (k + 1)) r ⌝ }
+{
+    if item < 1 || item > items {
+        return Err(CardFault::OutOfRange { entry: k + 1 });
+    }
+    Ok(())
+}
+
+/// Refuses entry k where its item has a place already.
+fn check_new(place: u16, k: usize) -> Result<(), CardFault>
+    requires { ⌜ k < 432 ⌝ }
+    ensures { λ r. ⌜ Checked (eqb place 0) (Repeated (k + 1)) r ⌝ }
+{
+    if place != 0 {
+        return Err(CardFault::Repeated { entry: k + 1 });
+    }
+    Ok(())
+}
+
 /// Reads entry k, counted from 0, behind entries that are good. An item's place is 0 until an entry
 /// names it, so an entry that finds another place there repeats an earlier one.
 fn read_entry(card: &[u8], items: usize, k: usize, places: &mut [u16]) -> Result<(), CardFault>
@@ -28,12 +52,8 @@ fn read_entry(card: &[u8], items: usize, k: usize, places: &mut [u16]) -> Result
     ensures { λ r. ⌜ EntryRead items (now (card .entry)) k (now (places .entry)) r (now (places .exit)) ⌝ }
 {
     let item = entry(card, k) as usize;
-    if item < 1 || item > items {
-        return Err(CardFault::OutOfRange { entry: k + 1 });
-    }
-    if places[item - 1] != 0 {
-        return Err(CardFault::Repeated { entry: k + 1 });
-    }
+    check_range(item, items, k)?;
+    check_new(places[item - 1], k)?;
     places[item - 1] = (k + 1) as u16;
     Ok(())
 }
