@@ -7,15 +7,16 @@ use Prim.Native.Nat.{ℕ, zero, suc, _+_, _<_, _≤_}
 use native.Mathlib.Numerals.{add-one}
 use native.Mathlib.Omega.{arith}
 use lib.Dec.{eqb}
-use Rattle.std.proofs.shelf.Tests.{cases-bool, cases-eq, cases-lt, cond-true, cond-false, eq-eqb, ne-eqb, eqb-true}
+use Rattle.std.proofs.shelf.Tests.{cases-bool, cases-eq, cond-true, cond-false, eq-eqb, ne-eqb, eqb-true}
 use Rattle.std.proofs.shelf.Ways.{tells}
+use Rattle.std.specs.Options.{orOther}
 use Rattle.std.specs.declared.option.Option.{Option}
 use Rattle.std.specs.declared.option.Option.the-variants.{Some, None}
 use Rattle.orders.specs.Books.{within}
 use Rattle.orders.specs.declared.fault.CardFault.{CardFault}
 use Rattle.orders.specs.declared.fault.CardFault.the-variants.{OutOfRange, Repeated}
 use Rattle.tally.specs.Tally.{position}
-use Rattle.cards.specs.Readings.{entryAt, entryFault, firstFault, orElse}
+use Rattle.cards.specs.Readings.{entryAt, entryFault, firstFault}
 
 module _ (items : ℕ) (card : List ℕ) where
   abbrev before : ℕ → ℕ
@@ -32,16 +33,16 @@ module _ (items : ℕ) (card : List ℕ) where
 
   pub first-more : (k : ℕ) → firstFault items card k ≡ None → within (entryAt card k) items ≡ true → before k ≡ 0 → firstFault items card (k + 1) ≡ None
   first-more k none inside new =
-      rw (add-one k) (ap (λ o. orElse o (entryFault items card k)) none ∙ entry-good k inside new)
+      rw (add-one k) (ap (λ o. orOther o (entryFault items card k)) none ∙ entry-good k inside new)
 
   first-at : (k n : ℕ) (fault : CardFault) → k < n → firstFault items card k ≡ None → entryFault items card k ≡ Some fault → firstFault items card n ≡ Some fault
   first-at k zero fault l none bad = absurd (omega arith)
   first-at k (suc n) fault l none bad =
       ⊎-elim
-      (λ (e : k ≡ n). subst (λ j. orElse (firstFault items card j) (entryFault items card j) ≡ Some fault) e (ap (λ o. orElse o (entryFault items card k)) none ∙ bad))
+      (λ (e : k ≡ n). subst (λ j. orOther (firstFault items card j) (entryFault items card j) ≡ Some fault) e (ap (λ o. orOther o (entryFault items card k)) none ∙ bad))
       (λ (ne : k ≡ n → ⊥).
-      let m : k < n = ⊎-elim (λ (z : k < n). z) (λ (z : n ≤ k). absurd (ne (omega arith))) (cases-lt k n) in
-      ap (λ o. orElse o (entryFault items card n)) (first-at k n fault m none bad))
+      let m : k < n = omega arith in
+      ap (λ o. orOther o (entryFault items card n)) (first-at k n fault m none bad))
       (cases-eq k n)
 
   pub first-out : (k n : ℕ) → k < n → firstFault items card k ≡ None → within (entryAt card k) items ≡ false → firstFault items card n ≡ Some (OutOfRange (k + 1))
@@ -51,7 +52,7 @@ module _ (items : ℕ) (card : List ℕ) where
   first-repeats k n l none inside old = first-at k n _ l none (entry-repeats k inside old)
 
   -- where the first of two is none, and both together are
-  first-part : (x y : Option CardFault) → orElse x y ≡ None → (x ≡ None) × (y ≡ None)
+  first-part : (x y : Option CardFault) → orOther x y ≡ None → (x ≡ None) × (y ≡ None)
   first-part None y e = (refl, e)
   first-part (Some fault) y e = let z : _≡_ {A = ℕ} 0 1 = cc in absurd (omega arith)
 
@@ -80,5 +81,5 @@ module _ (items : ℕ) (card : List ℕ) where
       let parts = first-part (firstFault items card n) (entryFault items card n) e in
       ⊎-elim
       (λ (is : k ≡ n). subst (λ j. (1 ≤ entryAt card j) × (entryAt card j ≤ items) × (before j ≡ 0)) (sym is) (good-entry n (parts .1)))
-      (λ (ne : k ≡ n → ⊥). good-entries n (parts .0) k (⊎-elim (λ (z : k < n). z) (λ (z : n ≤ k). absurd (ne (omega arith))) (cases-lt k n)))
+      (λ (ne : k ≡ n → ⊥). good-entries n (parts .0) k (omega arith))
       (cases-eq k n)

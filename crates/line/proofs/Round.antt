@@ -10,11 +10,7 @@ use Rattle.std.proofs.shelf.Lists.{getD-append-left, getD-append-right, getD-ta
 use Rattle.std.proofs.shelf.Tests.{cases-lt, eq-eqb, lt-ltb, le-ltb, cond-true, cond-false}
 use Rattle.std.proofs.shelf.Ways.{tells}
 use Rattle.line.specs.declared.ring.Line.{Line}
-use Rattle.line.specs.Waiting.{Empty, placeAt, held, vacant, Over, PutDone, TakeDone}
-
--- An empty line holds nothing over any slice.
-pub held-empty : {X : Type 0} (l : Line) (xs : List X) → Empty l → held l xs ≡ []
-held-empty l xs e = grind (arith, tells)
+use Rattle.line.specs.Waiting.{placeAt, held, vacant, Over, PutDone, TakeDone}
 
 place-near : (l : Line) (k : ℕ) → k < l .capacity - l .head → placeAt l k ≡ l .head + k
 place-near l k h = cond-true _ _ _ (lt-ltb k (l .capacity - l .head) h)

@@ -19,7 +19,7 @@ abbrev pub held : {X : Type 0} → Line → List X → List X
 held line slots =
     cond (eqb (length slots) (line .capacity)) (take (line .count) (drop (line .head) (slots ++ slots))) []
 
--- Nothing is held, over any slice: `take 0` of any list is empty.
+-- Nothing is held, over any slice: so states `Line::empty_holds_nothing`.
 abbrev pub Empty : Line → Type 0
 Empty line = line .count ≡ 0
 

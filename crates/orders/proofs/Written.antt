@@ -4,7 +4,7 @@ use mathlib.Core.Bool.{Bool, true, false, cond, _&&_}
 use mathlib.Core.List.{List, _++_}
 use mathlib.Core.Logic.{_⊎_, inl, inr, ⊎-elim}
 use Prim.Native.Nat.{ℕ, _+_, _-_, _*_, _<_, _≤_}
-use native.Mathlib.Nat.{add-mul, add-zero, mul-le-mul-right}
+use native.Mathlib.Nat.{add-mul, add-sub-cancel-left, add-zero, mul-le-mul-right}
 use native.Mathlib.Omega.{arith}
 use borrow.Author.Needs.{needs}
 use borrow.Rule.Slice.PartMut.{putMid}
@@ -18,6 +18,8 @@ use Rattle.std.specs.Options.{mapped}
 use Rattle.std.specs.declared.option.Option.the-variants.{Some, None}
 use Rattle.orders.specs.Books.{IsOrder, within, placeIn}
 use Rattle.orders.specs.Rows.{Low, High, Apart, orderAt}
+use Rattle.orders.specs.Tables.{tableMeaning}
+use Rattle.orders.specs.declared.table.OrderTable.{OrderTable}
 
 -- a row ends before the next one begins
 pub row-end : (c d items : ℕ) → c < d → c * items + items ≤ d * items
@@ -60,7 +62,7 @@ module _ (choosers items chooser n : ℕ) (xs row : List ℕ) (is : n ≡ items)
   each : length row ≡ n
   each = order .each ∙ sym is
 
-  pub same-length : length table ≡ length xs
+  same-length : length table ≡ length xs
   same-length = length-written (c * items) n xs row fits each
 
   own : (i : ℕ) → i < items → getD table (c * items + i) 0 ≡ getD row i 0
@@ -88,19 +90,19 @@ module _ (choosers items chooser n : ℕ) (xs row : List ℕ) (is : n ≡ items)
       ⊎-elim (λ (e : d ≡ c). inl (λ i l. subst (λ k. getD table (k * items + i) 0 ≡ getD row i 0) (sym e) (own i l)))
       (λ (ne : d ≡ c → ⊥). inr (other d ne, first d ne h)) (cases-eq d c)
 
-  pub written-low : Low choosers items xs → Low choosers items table
+  written-low : Low choosers items xs → Low choosers items table
   written-low old d i h =
       ⊎-elim (λ new. omega (arith, new i (h .1), order .low i (h .1)))
       (λ kept. omega (arith, kept .0 i (h .1), old d i (h .0, h .1, omega (arith, h .2, kept .1))))
       (rows d (omega (arith, h .1)))
 
-  pub written-high : High choosers items xs → High choosers items table
+  written-high : High choosers items xs → High choosers items table
   written-high old d i h =
       ⊎-elim (λ new. omega (arith, new i (h .1), order .high i (h .1)))
       (λ kept. omega (arith, kept .0 i (h .1), old d i (h .0, h .1, omega (arith, h .2, kept .1))))
       (rows d (omega (arith, h .1)))
 
-  pub written-apart : Apart choosers items xs → Apart choosers items table
+  written-apart : Apart choosers items xs → Apart choosers items table
   written-apart old d i j h =
       ⊎-elim (λ new. omega (arith, order .apart i j (h .1) (h .2) (omega (arith, h .4, new i (h .1), new j (h .2)))))
       (λ kept. old d i j (h .0, h .1, h .2, omega (arith, h .3, kept .1), omega (arith, h .4, kept .0 i (h .1), kept .0 j (h .2))))
@@ -130,7 +132,7 @@ module _ (choosers items chooser n : ℕ) (xs row : List ℕ) (is : n ≡ items)
       (cases-bool (within k choosers))
 
   -- the table then holds the new order for the chooser, and for any other what it held
-  pub written-orders : 0 < items → (k : ℕ) → orderAt choosers items table k ≡ cond (eqb k chooser) (Some row) (orderAt choosers items xs k)
+  written-orders : 0 < items → (k : ℕ) → orderAt choosers items table k ≡ cond (eqb k chooser) (Some row) (orderAt choosers items xs k)
   written-orders some k =
       ⊎-elim
       (λ (e : k ≡ chooser).
@@ -138,6 +140,37 @@ module _ (choosers items chooser n : ℕ) (xs row : List ℕ) (is : n ≡ items)
       (own-order some ∙ sym (cond-true _ _ _ (eq-eqb chooser chooser refl))))
       (λ (ne : k ≡ chooser → ⊥). other-order k ne some ∙ sym (cond-false _ _ _ (ne-eqb k chooser ne)))
       (cases-eq k chooser)
+
+-- What holds of a table once a chooser's row is written over by an order.
+pub record Rewritten (table : OrderTable) (chooser : ℕ) (row after : List ℕ) : Type 0 where
+  pub long : length after ≡ 6912
+  pub low : Low (table .choosers) (table .items) after
+  pub high : High (table .choosers) (table .items) after
+  pub apart : Apart (table .choosers) (table .items) after
+  pub orders : (k : ℕ) → orderAt (table .choosers) (table .items) after k ≡ cond (eqb k chooser) (Some row) (tableMeaning table .order k)
+
+-- a chooser's row lies within the table
+pub row-fits : (table : OrderTable) (chooser : ℕ) → within chooser (table .choosers) ≡ true → (chooser - 1) * table .items + table .items ≤ 6912
+row-fits table chooser known =
+    omega (arith, table .«few_places», row-end (chooser - 1) (table .choosers) (table .items) (row-inside chooser (table .choosers) known))
+
+-- n is the length of the part as the code has it, its end less its start
+pub rewritten : (table : OrderTable) (chooser : ℕ) (row : List ℕ) → within chooser (table .choosers) ≡ true → IsOrder (table .items) row →
+    let start = (chooser - 1) * table .items in
+    Rewritten table chooser row (putMid start (start + table .items - start) (table .places) row)
+rewritten table chooser row known order =
+    let items = table .items in
+    let choosers = table .choosers in
+    let is = add-sub-cancel-left ((chooser - 1) * items) items in
+    let room : choosers * items ≤ length (table .places) = omega (arith, table .long, table .«few_places») in
+    let some : 0 < items = table .«some_items» (grind (arith, tells)) in
+    record {
+      long = same-length choosers items chooser _ (table .places) row is known room order ∙ table .long;
+      low = written-low choosers items chooser _ (table .places) row is known room order (table .low);
+      high = written-high choosers items chooser _ (table .places) row is known room order (table .high);
+      apart = written-apart choosers items chooser _ (table .places) row is known room order (table .apart);
+      orders = written-orders choosers items chooser _ (table .places) row is known room order some;
+    }
 
 -- the place that the table holds
 pub place-kept : (choosers items : ℕ) (xs : List ℕ) (chooser item : ℕ) → within chooser choosers ≡ true → within item items ≡ true → 0 < getD xs ((chooser - 1) * items) 0

@@ -31,9 +31,10 @@ readingOf PointsKind = pointsReading
 abbrev pub soleReading : Reading → ℕ → List ℕ → Result (List ℕ) BookFault
 soleReading reading items card = cond (fits 1 items) (readCard reading (blank 1 items) 1 card) (Err Size)
 
-abbrev pub SoleCard : Reading → ℕ → List ℕ → Result (Unit {0}) BookFault → Meaning → Type 0
-SoleCard reading items card (Ok _) book = (places : List ℕ) × (soleReading reading items card ≡ Ok places) × (book ≡ entered (blank 1 items) 1 places)
-SoleCard reading items card (Err fault) book = soleReading reading items card ≡ Err fault
+-- the answer, with the book before and after: refused for its size it stays, refused for the card it is blank
+abbrev pub SoleCard : Reading → ℕ → List ℕ → Meaning → Result (Unit {0}) BookFault → Meaning → Type 0
+SoleCard reading items card before (Ok _) after = (places : List ℕ) × (soleReading reading items card ≡ Ok places) × (after ≡ entered (blank 1 items) 1 places)
+SoleCard reading items card before (Err fault) after = (soleReading reading items card ≡ Err fault) × (after ≡ cond (fits 1 items) (blank 1 items) before)
 
 abbrev pub placeLine : ℕ → Option ℕ → List Line
 placeLine item (Some place) = Place item place ∷ []

@@ -36,7 +36,7 @@ pub fn kind_of(word: &str) -> Option<Kind>
 
 /// Reads a card as that of the only chooser of a book.
 fn read_sole<B: OrderBook>(book: &mut B, items: usize, card: &[u8]) -> Result<(), BookFault>
-    ensures { λ r. ⌜ SoleCard (B·OrderBook .reading (now (book .entry))) items (now (card .entry)) r (B·OrderBook .meaning (now (book .exit))) ⌝ }
+    ensures { λ r. ⌜ SoleCard (B·OrderBook .reading (now (book .entry))) items (now (card .entry)) (B·OrderBook .meaning (now (book .entry))) r (B·OrderBook .meaning (now (book .exit))) ⌝ }
 {
     book.clear(1, items)?;
     book.enter(1, card)
@@ -56,17 +56,17 @@ fn place_lines<B: OrderBook>(heap: Global, book: &B) -> Result<Vec<Line>, AllocE
     Ok(lines)
 }
 
-/// The lines of a card that is read into a fresh book.
-fn answer_by<B: OrderBook>(
+/// The lines of a card that is read into a book.
+fn answer_by<B: OrderBook + Drop>(
     heap: Global,
-    book: &mut B,
+    mut book: B,
     items: usize,
     card: &[u8],
 ) -> Result<Vec<Line>, AllocError>
-    ensures { λ r. ⌜ made r (λ lines. vec-items lines ≡ answerOf (B·OrderBook .reading (now (book .entry))) items (now (card .entry))) ⌝ }
+    ensures { λ r. ⌜ made r (λ lines. vec-items lines ≡ answerOf (B·OrderBook .reading book) items (now (card .entry))) ⌝ }
 {
-    match read_sole(book, items, card) {
-        Ok(()) => place_lines(heap, book),
+    match read_sole(&mut book, items, card) {
+        Ok(()) => place_lines(heap, &book),
         Err(fault) => {
             let mut lines = Vec::new(heap);
             lines.push(Line::Refused(fault))?;
@@ -80,7 +80,7 @@ pub fn answer(heap: Global, kind: Kind, items: usize, card: &[u8]) -> Result<Vec
     ensures { λ r. ⌜ made r (λ lines. vec-items lines ≡ answerOf (readingOf kind) items (now (card .entry))) ⌝ }
 {
     match kind {
-        Kind::List => answer_by(heap, &mut CardBook::new(WrittenList), items, card),
-        Kind::Points => answer_by(heap, &mut CardBook::new(Points), items, card),
+        Kind::List => answer_by(heap, CardBook::new(WrittenList), items, card),
+        Kind::Points => answer_by(heap, CardBook::new(Points), items, card),
     }
 }

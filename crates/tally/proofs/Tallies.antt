@@ -5,7 +5,7 @@ use mathlib.Core.Logic.{⊎-elim}
 use Prim.Native.Nat.{ℕ, zero, suc, _+_, _<_, _≤_}
 use native.Mathlib.Numerals.{add-one}
 use native.Mathlib.Omega.{arith}
-use Rattle.std.proofs.shelf.Tests.{cases-bool, cases-eq, cases-lt, both-ways}
+use Rattle.std.proofs.shelf.Tests.{cases-bool, cases-eq, both-ways}
 use Rattle.tally.specs.Tally.{tally}
 
 abbrev one : Bool → ℕ
@@ -31,7 +31,7 @@ tally-strict p q (suc n) y l fails passes h =
     let qn : one (q n) ≡ 1 = ap (λ k. one (q k)) (sym e) ∙ ap one passes in
     omega (arith, tally-mono p q n below))
     (λ (ne : y ≡ n → ⊥).
-    omega (arith, one-mono (p n) (q n) (h n (omega arith)), tally-strict p q n y (⊎-elim (λ (z : y < n). z) (λ (z : n ≤ y). absurd (ne (omega arith))) (cases-lt y n)) fails passes below))
+    omega (arith, one-mono (p n) (q n) (h n (omega arith)), tally-strict p q n y (omega arith) fails passes below))
     (cases-eq y n)
 
 pub tally-always : (n : ℕ) → tally (λ _. true) n ≡ n
@@ -65,7 +65,7 @@ tally-one-more p q (suc n) y l fails passes h =
     let qn : one (q n) ≡ 1 = ap (λ k. one (q k)) (sym e) ∙ ap one passes in
     omega (arith, tally-same p q n (λ k m. h k (omega arith) (λ z. omega arith))))
     (λ (ne : y ≡ n → ⊥).
-    let m : y < n = ⊎-elim (λ (z : y < n). z) (λ (z : n ≤ y). absurd (ne (omega arith))) (cases-lt y n) in
+    let m : y < n = omega arith in
     omega (arith, ap one (h n (omega arith) (λ z. ne (sym z))), tally-one-more p q n y m fails passes (λ k z. h k (omega arith))))
     (cases-eq y n)
 

@@ -1,13 +1,19 @@
 //! What a waiting line does.
 
-use crate::fault::LineFault;
-use crate::ring::Line;
+ghost use mathlib.Core.List.{List, []};
 ghost use mathlib.Core.Path.{_≡_};
 ghost use Prim.Native.Nat.{_<_};
 ghost use lib.ListN.{length};
 ghost use Rattle.line.specs.Waiting.{held, Begun, Empty, Over, placeAt, Put, PutDone, Take, TakeDone};
+use crate::fault::LineFault;
+use crate::ring::Line;
 
 impl Line {
+    /// States that an empty line holds nothing, whatever the elements and the slice.
+    pub fn empty_holds_nothing<T: Copy>()
+        ensures { λ _. ⌜ ((line : Line) (slots : List T) → Empty line → held line slots ≡ []) ⌝ }
+    {}
+
     /// An empty line.
     pub fn new() -> Line
         ensures { λ r. ⌜ Empty r ⌝ }
