@@ -1,2 +1,5 @@
 pub mod Tallies
 pub mod Positions
+pub mod Ranks
+pub mod Totals
+pub mod Sums

@@ -1,5 +1,6 @@
--- Counting below a number, and the place of a value in a finite sequence. Both compute.
+-- Counting below a number, adding up over a list, and the place of a value in a finite sequence. All compute.
 use mathlib.Core.Bool.{Bool, cond}
+use mathlib.Core.List.{List, [], _∷_}
 use Prim.Native.Nat.{ℕ, zero, suc, _+_}
 use lib.Dec.{eqb}
 
@@ -12,3 +13,8 @@ tally p (suc n) = cond {A = ℕ} (p n) 1 0 + tally p n
 abbrev pub position : (ℕ → ℕ) → ℕ → ℕ → ℕ
 position f x zero = 0
 position f x (suc n) = cond {A = ℕ} (eqb (f n) x) (suc n) (position f x n)
+
+-- the sum of f over the entries of a list
+abbrev pub total : (ℕ → ℕ) → List ℕ → ℕ
+total f [] = 0
+total f (x ∷ xs) = f x + total f xs

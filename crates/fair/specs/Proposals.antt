@@ -1,0 +1,57 @@
+-- The tests of a proposed list, in their order, and what each names.
+use mathlib.Core.Path.{_≡_}
+use mathlib.Core.Bool.{Bool, true, false}
+use mathlib.Core.List.{List}
+use Prim.Native.Nat.{ℕ, _-_, _<_, _≤_}
+use lib.ListN.{length}
+use Rattle.orders.specs.Books.{within}
+use Rattle.fair.specs.Markets.{Market, isBrew}
+use Rattle.fair.specs.Choices.{choices, choiceAt}
+use Rattle.fair.specs.Allotments.{brewOf, NamesBrews, FullOrClosed, Feasible, justlyEnvies, Fair, BestFair, NoneLower, Better}
+
+-- k is the lowest of 1 to n of which P holds
+pub record Lowest (n : ℕ) (P : ℕ → Type 0) (k : ℕ) : Type 0 where
+  pub low : 1 ≤ k
+  pub high : k ≤ n
+  pub holds : P k
+  pub not-before : (j : ℕ) → 1 ≤ j → j < k → P j → ⊥
+
+-- taker number t has a just envy
+abbrev pub Envious : Market → List ℕ → ℕ → Type 0
+Envious w a t = (r : ℕ) × (c : ℕ) × (r < w .figures .takers) × (justlyEnvies w a (t - 1) r c ≡ true)
+
+-- taker number t is lower than in the house's best fair allotment
+abbrev pub LowerThanHouse : Market → List ℕ → List ℕ → ℕ → Type 0
+LowerThanHouse w house a t = (b : List ℕ) × BestFair w house b × (w .brewPlace (t - 1) (brewOf b (t - 1)) < w .brewPlace (t - 1) (brewOf a (t - 1)))
+
+-- the best fair allotment over the choice with the ordinal o is better
+abbrev pub BetterOver : Market → List ℕ → ℕ → Type 0
+BetterOver w a o = (d : List ℕ) × BestFair w (choiceAt (w .figures) (o - 1)) d × Better w d a
+
+-- The list passes all five tests.
+pub record Passes (w : Market) (house a : List ℕ) : Type 0 where
+  pub names-brews : NamesBrews w a
+  pub full : (c : ℕ) → isBrew w c → FullOrClosed w a c
+  pub fair : Fair w a
+  pub not-lower : (b : List ℕ) → BestFair w house b → NoneLower w a b
+  pub not-bettered : (o : ℕ) → 1 ≤ o → o ≤ length (choices (w .figures)) → BetterOver w a o → ⊥
+
+-- A list passes, or one test is the first that it fails: by its length or the lowest taker without a brew of the round,
+-- by the lowest brew, the lowest taker twice, or the lowest ordinal.
+pub data Verdict : Type 0 where
+  Passed : Verdict
+  WrongLength : Verdict
+  NoBrew : (taker : ℕ) → Verdict
+  NotFull : (brew : ℕ) → Verdict
+  Envies : (taker : ℕ) → Verdict
+  Lower : (taker : ℕ) → Verdict
+  Bettered : (ordinal : ℕ) → Verdict
+
+abbrev pub Judged : Market → List ℕ → List ℕ → Verdict → Type 0
+Judged w house a Passed = Passes w house a
+Judged w house a WrongLength = length a ≡ w .figures .takers → ⊥
+Judged w house a (NoBrew t) = (length a ≡ w .figures .takers) × Lowest (w .figures .takers) (λ k. within (brewOf a (k - 1)) (w .figures .brews) ≡ false) t
+Judged w house a (NotFull c) = NamesBrews w a × Lowest (w .figures .brews) (λ k. FullOrClosed w a k → ⊥) c
+Judged w house a (Envies t) = Feasible w a × Lowest (w .figures .takers) (Envious w a) t
+Judged w house a (Lower t) = Feasible w a × Fair w a × Lowest (w .figures .takers) (LowerThanHouse w house a) t
+Judged w house a (Bettered o) = Feasible w a × Fair w a × ((b : List ℕ) → BestFair w house b → NoneLower w a b) × Lowest (length (choices (w .figures))) (BetterOver w a) o

@@ -1,0 +1,1 @@
+//! Fair allotment: definitions in specs/, and theorems on the contracts of the functions here.

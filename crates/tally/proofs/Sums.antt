@@ -1,0 +1,28 @@
+-- Laws of adding up over the numbers below a bound.
+use mathlib.Core.Path.{_≡_, sym, ap, subst}
+use mathlib.Core.Logic.{⊎-elim}
+use Prim.Native.Nat.{ℕ, zero, suc, _+_, _*_, _<_, _≤_}
+use native.Mathlib.Omega.{arith}
+use native.Mathlib.Nat.{add-mul}
+use Rattle.std.proofs.shelf.Tests.{cases-eq}
+
+-- f 0 + .. + f (n - 1)
+abbrev pub sum-below : (ℕ → ℕ) → ℕ → ℕ
+sum-below f zero = 0
+sum-below f (suc n) = f n + sum-below f n
+
+pub sum-mono : (f g : ℕ → ℕ) (n : ℕ) → ((k : ℕ) → k < n → f k ≤ g k) → sum-below f n ≤ sum-below g n
+sum-mono f g zero h = omega arith
+sum-mono f g (suc n) h = omega (arith, h n (omega arith), sum-mono f g n (λ k l. h k (omega arith)))
+
+pub sum-strict : (f g : ℕ → ℕ) (n y : ℕ) → y < n → f y < g y → ((k : ℕ) → k < n → f k ≤ g k) → sum-below f n < sum-below g n
+sum-strict f g zero y l less h = absurd (omega arith)
+sum-strict f g (suc n) y l less h =
+    ⊎-elim
+    (λ (e : y ≡ n). omega (arith, subst (λ k. f k < g k) e less, sum-mono f g n (λ k m. h k (omega arith))))
+    (λ (ne : y ≡ n → ⊥). omega (arith, h n (omega arith), sum-strict f g n y (omega arith) less (λ k m. h k (omega arith))))
+    (cases-eq y n)
+
+pub sum-le : (f : ℕ → ℕ) (m n : ℕ) → ((k : ℕ) → k < n → f k ≤ m) → sum-below f n ≤ n * m
+sum-le f m zero h = omega arith
+sum-le f m (suc n) h = omega (arith, h n (omega arith), sum-le f m n (λ k l. h k (omega arith)))
