@@ -11,7 +11,7 @@ use Rattle.std.proofs.shelf.Tests.{cases-bool, cases-lt, both-ways, eq-eqb, ne-
 use Rattle.std.proofs.shelf.Ways.{tells}
 use Rattle.fair.specs.Markets.{Market, prefers}
 use Rattle.fair.specs.Choices.{among}
-use Rattle.fair.specs.Acceptance.{higher, favourite, nextBrew}
+use Rattle.fair.specs.Acceptance.{higher, favourite}
 use Rattle.fair.proofs.Choosing.{among-first, among-later, among-cases, among-kept}
 
 module _ (w : Market) (s : ℕ) where
@@ -60,34 +60,36 @@ module _ (w : Market) (s : ℕ) where
       let rest = favourite-or-none cs (λ b t. numbers b (among-later c b cs t)) in
       record { some = λ _ _. higher-some c (favourite w s cs) first; favourite = λ _. with-one-more c cs (favourite w s cs) first rest }
 
-  -- d is the brew of the list that follows c in the order of taker s
+  -- d is the brew of the list that comes next after c in the order of taker s
   pub record IsNext (cs : List ℕ) (c d : ℕ) : Type 0 where
     pub listed : among cs d ≡ true
     pub below : w .brewPlace s c < w .brewPlace s d
     pub none-between : (e : ℕ) → among cs e ≡ true → w .brewPlace s c < w .brewPlace s e → w .brewPlace s d ≤ w .brewPlace s e
 
-  -- nextBrew is that brew, where there is one
-  pub next-is : (cs : List ℕ) → ((c : ℕ) → among cs c ≡ true → 1 ≤ c) → (c e : ℕ) → among cs e ≡ true → w .brewPlace s c < w .brewPlace s e → IsNext cs c (nextBrew w cs s c)
-  next-is cs numbers c e listed lower =
-      let kept : (d : ℕ) → among cs d ≡ true → w .brewPlace s c < w .brewPlace s d → among (kept-by (prefers w s c) cs) d ≡ true =
-      λ d t l. among-kept (prefers w s c) cs d ∙ and-from _ _ (lt-ltb _ _ l) t in
-      let back : (d : ℕ) → among (kept-by (prefers w s c) cs) d ≡ true → (prefers w s c d ≡ true) × (among cs d ≡ true) =
-      λ d t. and-parts _ _ (sym (among-kept (prefers w s c) cs d) ∙ t) in
-      let of = favourite-or-none (kept-by (prefers w s c) cs) (λ d t. numbers d (back d t .1)) in
-      let is = of .favourite (of .some e (kept e listed lower)) in
-      let parts = back _ (is .listed) in
-      record { listed = parts .1; below = ltb-true _ _ (parts .0); none-between = λ d t l. is .highest d (kept d t l) }
+  -- the list has a brew next after c, or none below c
+  abbrev NextOrLast : List ℕ → ℕ → Type 0
+  NextOrLast cs c = ((d : ℕ) × IsNext cs c d) ⊎ ((e : ℕ) → among cs e ≡ true → w .brewPlace s e ≤ w .brewPlace s c)
 
-  -- c has a next brew in the list, or is ranked no higher than any of it
-  pub next-or-last : (cs : List ℕ) → ((c : ℕ) → among cs c ≡ true → 1 ≤ c) → (c : ℕ) → ((e : ℕ) × (among cs e ≡ true) × (w .brewPlace s c < w .brewPlace s e)) ⊎ ((e : ℕ) → among cs e ≡ true → w .brewPlace s e ≤ w .brewPlace s c)
-  next-or-last [] numbers c = inr (λ e t. absurd (both-ways false refl t))
-  next-or-last (d ∷ ds) numbers c =
+  first-is-next : (c d : ℕ) (ds : List ℕ) → w .brewPlace s c < w .brewPlace s d → ((e : ℕ) → among ds e ≡ true → w .brewPlace s c < w .brewPlace s e → w .brewPlace s d ≤ w .brewPlace s e) → NextOrLast (d ∷ ds) c
+  first-is-next c d ds l rest =
+      inl (d, record { listed = among-first d ds; below = l; none-between = λ e t m. ⊎-elim (λ (h : d ≡ e). omega (arith, ap (w .brewPlace s) h)) (λ (h : among ds e ≡ true). rest e h m) (among-cases d e ds t) })
+
+  later-is-next : (c d : ℕ) (ds : List ℕ) → (next : (n : ℕ) × IsNext ds c n) → (w .brewPlace s c < w .brewPlace s d → w .brewPlace s (next .0) ≤ w .brewPlace s d) → NextOrLast (d ∷ ds) c
+  later-is-next c d ds (n, next) first =
+      inl (n, record { listed = among-later d n ds (next .listed); below = next .below; none-between = λ e t m. ⊎-elim (λ (h : d ≡ e). subst (λ k. w .brewPlace s n ≤ w .brewPlace s k) h (first (omega (arith, m, ap (w .brewPlace s) h)))) (λ (h : among ds e ≡ true). next .none-between e h m) (among-cases d e ds t) })
+
+  pub next-or-last : (cs : List ℕ) (c : ℕ) → NextOrLast cs c
+  next-or-last [] c = inr (λ e t. absurd (both-ways false refl t))
+  next-or-last (d ∷ ds) c =
       ⊎-elim
-      (λ (l : w .brewPlace s c < w .brewPlace s d). inl (d, among-first d ds, l))
-      (λ (l : w .brewPlace s d ≤ w .brewPlace s c).
+      (λ (next : (n : ℕ) × IsNext ds c n).
       ⊎-elim
-      (λ (later : (e : ℕ) × (among ds e ≡ true) × (w .brewPlace s c < w .brewPlace s e)). inl (later .0, among-later d (later .0) ds (later .1), later .2))
+      (λ (nearer : w .brewPlace s d < w .brewPlace s (next .0)).
+      ⊎-elim (λ (l : w .brewPlace s c < w .brewPlace s d). first-is-next c d ds l (λ e t m. omega (arith, next .1 .none-between e t m))) (λ (l : w .brewPlace s d ≤ w .brewPlace s c). later-is-next c d ds next (λ m. absurd (omega arith))) (cases-lt (w .brewPlace s c) (w .brewPlace s d)))
+      (λ (farther : w .brewPlace s (next .0) ≤ w .brewPlace s d). later-is-next c d ds next (λ _. farther))
+      (cases-lt (w .brewPlace s d) (w .brewPlace s (next .0))))
       (λ (last : (e : ℕ) → among ds e ≡ true → w .brewPlace s e ≤ w .brewPlace s c).
-      inr (λ e t. ⊎-elim (λ (h : d ≡ e). omega (arith, ap (w .brewPlace s) h)) (λ (h : among ds e ≡ true). last e h) (among-cases d e ds t)))
-      (next-or-last ds (λ b t. numbers b (among-later d b ds t)) c))
-      (cases-lt (w .brewPlace s c) (w .brewPlace s d))
+      ⊎-elim (λ (l : w .brewPlace s c < w .brewPlace s d). first-is-next c d ds l (λ e t m. absurd (omega (arith, last e t))))
+      (λ (l : w .brewPlace s d ≤ w .brewPlace s c). inr (λ e t. ⊎-elim (λ (h : d ≡ e). omega (arith, ap (w .brewPlace s) h)) (λ (h : among ds e ≡ true). last e h) (among-cases d e ds t)))
+      (cases-lt (w .brewPlace s c) (w .brewPlace s d)))
+      (next-or-last ds c)

@@ -1,4 +1,5 @@
--- What every run of deferred acceptance keeps, and why it ends in the best fair allotment.
+-- What deferred acceptance keeps of the list of the brews that the takers apply to, and why it ends in the best fair
+-- allotment.
 use mathlib.Core.Path.{_≡_, refl, sym, ap, subst, _∙_}
 use mathlib.Core.Bool.{Bool, true, false, not, cond, _&&_}
 use mathlib.Core.List.{List, [], _∷_}
@@ -7,18 +8,16 @@ use Prim.Native.Nat.{ℕ, zero, suc, _<_, _≤_}
 use native.Mathlib.Omega.{arith}
 use lib.Dec.{eqb, ltb, leb}
 use lib.ListN.{length}
-use Rattle.std.proofs.shelf.Counted.{length-map-counting, getD-map-counting}
 use Rattle.std.proofs.shelf.Tests.{cases-bool, cases-eq, cases-lt, cases-order, both-ways, eq-eqb, eqb-true, lt-ltb, le-ltb, ltb-true, le-leb, leb-true, and-parts, and-from, and-right, not-from-true, not-from-false, ne-eqb}
-use Rattle.std.proofs.shelf.Ways.{tells}
 use Rattle.tally.specs.Tally.{tally, total}
 use Rattle.tally.proofs.Tallies.{tally-mono, tally-strict, tally-some, tally-fails, tally-below, tally-always, tally-same}
 use Rattle.tally.proofs.Ranks.{front, front-stays, crowded}
 use Rattle.fair.specs.Markets.{Market, SoundMarket, lotsOf, prefers, favours, isBrew}
 use Rattle.fair.specs.Choices.{among, IsChoice}
 use Rattle.fair.specs.Allotments.{brewOf, takersWith, Feasible, Over, justlyEnvies, Fair, NoneLower, FairOver, BestFair}
-use Rattle.fair.specs.Acceptance.{favourite, nextBrew, firstBrews, ahead, refused, NobodyRefused, SomeRefused, Run, begun, further}
-use Rattle.fair.proofs.Choosing.{choice-within, choice-serves-all, total-mono, total-squeeze, count-by-brew, among-first}
-use Rattle.fair.proofs.Favourites.{IsFavourite, favourite-or-none, IsNext, next-is, next-or-last}
+use Rattle.fair.specs.Acceptance.{ahead, refused, NobodyRefused}
+use Rattle.fair.proofs.Choosing.{choice-within, choice-serves-all, total-mono, total-squeeze, count-by-brew}
+use Rattle.fair.proofs.Favourites.{IsFavourite, IsNext, next-or-last}
 
 -- Everybody applies to a brew of the choice; a brew that has refused a taker has as many better applicants as lots;
 -- and no feasible fair allotment over the choice gives a taker a brew that has refused it.
@@ -27,6 +26,11 @@ pub record Reached (w : Market) (cs a : List ℕ) : Type 0 where
   pub chosen : (s : ℕ) → s < w .figures .takers → among cs (brewOf a s) ≡ true
   pub outranked : (s c : ℕ) → s < w .figures .takers → among cs c ≡ true → prefers w s c (brewOf a s) ≡ true → lotsOf (w .figures) c ≤ ahead w a c s
   pub safe : (b : List ℕ) → FairOver w cs b → NoneLower w a b
+
+-- A step of that list alone: a taker stays, or is refused and goes to the next brew of its order.
+pub record Moves (w : Market) (cs a b : List ℕ) : Type 0 where
+  pub each : length b ≡ w .figures .takers
+  pub stays-or-next : (s : ℕ) → s < w .figures .takers → (brewOf a s ≡ brewOf b s) ⊎ ((refused w a s ≡ true) × IsNext w s cs (brewOf a s) (brewOf b s))
 
 -- somebody's brew is one of those with takers
 pub has-a-taker : (w : Market) (a : List ℕ) (s : ℕ) → s < w .figures .takers → 1 ≤ takersWith w a (brewOf a s)
@@ -45,35 +49,20 @@ module _ (w : Market) (sound : SoundMarket w) (cs : List ℕ) (choice : IsChoice
   known : (c : ℕ) → among cs c ≡ true → isBrew w c
   known = choice-within (w .figures) cs choice
 
-  numbers : (c : ℕ) → among cs c ≡ true → 1 ≤ c
-  numbers c t = let k = known c t in grind (arith, tells)
-
   -- a taker that gives two brews of the choice the same place speaks of one brew
   same-brew : (s c d : ℕ) → s < takers → among cs c ≡ true → among cs d ≡ true → w .brewPlace s c ≡ w .brewPlace s d → c ≡ d
   same-brew s c d l t u = sound .brews-apart s c d l (known c t) (known d u)
 
-  -- where there are takers, the choice has a brew
-  some-brew : (ds : List ℕ) → 1 ≤ total (lotsOf (w .figures)) ds → (c : ℕ) × (among ds c ≡ true)
-  some-brew [] some = absurd (omega arith)
-  some-brew (d ∷ ds) some = (d, among-first d ds)
-
-  pub first-is-favourite : (s : ℕ) → s < takers → IsFavourite w s cs (brewOf (firstBrews w cs) s)
-  first-is-favourite s l =
-      let of = favourite-or-none w s cs numbers in
-      let one = some-brew cs (omega (arith, choice-serves-all (w .figures) cs (sound .limits) choice)) in
-      subst (IsFavourite w s cs) (sym (getD-map-counting (λ t. favourite w t cs) 0 takers s s 0 l (omega arith))) (of .favourite (of .some (one .0) (one .1)))
-
-  pub reached-first : Reached w cs (firstBrews w cs)
-  reached-first =
+  pub reached-first : (a : List ℕ) → length a ≡ takers → ((s : ℕ) → s < takers → IsFavourite w s cs (brewOf a s)) → Reached w cs a
+  reached-first a each first =
       record {
-        each = length-map-counting _ 0 takers;
-        chosen = λ s l. first-is-favourite s l .listed;
-        outranked = λ s c l t above. absurd (omega (arith, ltb-true _ _ above, first-is-favourite s l .highest c t));
-        safe = λ b fair s l. first-is-favourite s l .highest (brewOf b s) (over-chosen w cs b (fair .over) s l);
-      }
+        each = each;
+        chosen = λ s l. first s l .listed;
+        outranked = λ s c l t above. absurd (omega (arith, ltb-true _ _ above, first s l .highest c t));
+        safe = λ b fair s l. first s l .highest (brewOf b s) (over-chosen w cs b (fair .over) s l) }
 
   -- A step leaves as many better applicants as lots: the front of a brew's applicants is not refused.
-  ahead-stays : (a b : List ℕ) → SomeRefused w cs a b → (c s : ℕ) → lotsOf (w .figures) c ≤ ahead w a c s → lotsOf (w .figures) c ≤ ahead w b c s
+  ahead-stays : (a b : List ℕ) → Moves w cs a b → (c s : ℕ) → lotsOf (w .figures) c ≤ ahead w a c s → lotsOf (w .figures) c ≤ ahead w b c s
   ahead-stays a b step c s many =
       omega (arith, front-stays (λ t. eqb (brewOf a t) c) (w .takerPlace c) takers (lotsOf (w .figures) c) (w .takerPlace c s) many, tally-mono (front (λ t. eqb (brewOf a t) c) (w .takerPlace c) takers (lotsOf (w .figures) c) (w .takerPlace c s)) (λ t. eqb (brewOf b t) c && favours w c t s) takers stays)
     where
@@ -83,10 +72,10 @@ module _ (w : Market) (sound : SoundMarket w) (cs : List ℕ) (choice : IsChoice
           let here = and-parts (eqb (brewOf a t) c) (favours w c t s) (parts .0) in
           let at : brewOf a t ≡ c = eqb-true _ _ (here .0) in
           ⊎-elim
-          (λ (same : brewOf b t ≡ brewOf a t). and-from _ _ (eq-eqb _ _ (same ∙ at)) (here .1))
-          (λ (moved : (refused w a t ≡ true) × (brewOf b t ≡ nextBrew w cs t (brewOf a t))).
+          (λ (same : brewOf a t ≡ brewOf b t). and-from _ _ (eq-eqb _ _ (sym same ∙ at)) (here .1))
+          (λ (moved : (refused w a t ≡ true) × IsNext w t cs (brewOf a t) (brewOf b t)).
           absurd (omega (arith, ltb-true _ _ (parts .1), leb-true _ _ (subst (λ d. leb (lotsOf (w .figures) d) (ahead w a d t) ≡ true) at (moved .0)))))
-          (step .stays-or-moves t l)
+          (step .stays-or-next t l)
 
   module _ (a : List ℕ) (reached : Reached w cs a) where
     -- A brew that refuses a taker is given to it by no feasible fair allotment over the choice: the better applicants
@@ -116,13 +105,13 @@ module _ (w : Market) (sound : SoundMarket w) (cs : List ℕ) (choice : IsChoice
             (and-right _ _ (not-above-itself w s (brewOf a s))) (eq-eqb _ _ same) has-it
 
     -- A refused taker has a next brew: else all lots of the choice would go to others.
-    pub refused-has-next : (s : ℕ) → s < takers → refused w a s ≡ true → IsNext w s cs (brewOf a s) (nextBrew w cs s (brewOf a s))
+    pub refused-has-next : (s : ℕ) → s < takers → refused w a s ≡ true → (d : ℕ) × IsNext w s cs (brewOf a s) d
     refused-has-next s l refusal =
         ⊎-elim
-        (λ (lower : (e : ℕ) × (among cs e ≡ true) × (w .brewPlace s (brewOf a s) < w .brewPlace s e)). next-is w s cs numbers (brewOf a s) (lower .0) (lower .1) (lower .2))
+        (λ (next : (d : ℕ) × IsNext w s cs (brewOf a s) d). next)
         (λ (last : (e : ℕ) → among cs e ≡ true → w .brewPlace s e ≤ w .brewPlace s (brewOf a s)).
         absurd (omega (arith, choice-serves-all (w .figures) cs (sound .limits) choice, total-mono (lotsOf (w .figures)) others cs (all-lots last), count-by-brew (brewOf a) not-itself takers 0 (w .figures .brews) cs (choice .ascending), tally-mono (λ t. not-itself t && among cs (brewOf a t)) not-itself takers (λ t _ both. and-parts (not-itself t) _ both .0), tally-below not-itself takers s l (not-from-true _ (eq-eqb s s refl)))))
-        (next-or-last w s cs numbers (brewOf a s))
+        (next-or-last w s cs (brewOf a s))
       where
         not-itself : ℕ → Bool
         not-itself t = not (eqb t s)
@@ -147,14 +136,7 @@ module _ (w : Market) (sound : SoundMarket w) (cs : List ℕ) (choice : IsChoice
             omega (arith, ahead-others c, reached .outranked s c l t (lt-ltb _ _ above)))
             (cases-eq c (brewOf a s))
 
-    -- in a step a taker stays, or is refused and goes to its next brew
-    pub stays-or-next : (b : List ℕ) → SomeRefused w cs a b → (s : ℕ) → s < takers → (brewOf a s ≡ brewOf b s) ⊎ ((refused w a s ≡ true) × IsNext w s cs (brewOf a s) (brewOf b s))
-    stays-or-next b step s l =
-        ⊎-elim (λ (same : brewOf b s ≡ brewOf a s). inl (sym same))
-        (λ (next : (refused w a s ≡ true) × (brewOf b s ≡ nextBrew w cs s (brewOf a s))). inr (next .0, subst (IsNext w s cs (brewOf a s)) (sym (next .1)) (refused-has-next s l (next .0))))
-        (step .stays-or-moves s l)
-
-    pub reached-further : (b : List ℕ) → SomeRefused w cs a b → Reached w cs b
+    pub reached-further : (b : List ℕ) → Moves w cs a b → Reached w cs b
     reached-further b step =
         record { each = step .each; chosen = chosen; outranked = λ s c l t above. ahead-stays a b step c s (outranked s c l t (ltb-true _ _ above)); safe = safe }
       where
@@ -162,7 +144,7 @@ module _ (w : Market) (sound : SoundMarket w) (cs : List ℕ) (choice : IsChoice
         chosen s l =
             ⊎-elim (λ (same : brewOf a s ≡ brewOf b s). subst (λ c. among cs c ≡ true) same (reached .chosen s l))
             (λ (next : (refused w a s ≡ true) × IsNext w s cs (brewOf a s) (brewOf b s)). next .1 .listed)
-            (stays-or-next b step s l)
+            (step .stays-or-next s l)
 
         -- what refuses in the step, or has refused before it, had as many better applicants as lots
         outranked : (s c : ℕ) → s < takers → among cs c ≡ true → w .brewPlace s c < w .brewPlace s (brewOf b s) → lotsOf (w .figures) c ≤ ahead w a c s
@@ -178,7 +160,7 @@ module _ (w : Market) (sound : SoundMarket w) (cs : List ℕ) (choice : IsChoice
             (λ (behind : w .brewPlace s (brewOf a s) < w .brewPlace s c). absurd (omega (arith, next .1 .none-between c t behind)))
             either)
             (cases-order (w .brewPlace s c) (w .brewPlace s (brewOf a s))))
-            (stays-or-next b step s l)
+            (step .stays-or-next s l)
 
         safe : (d : List ℕ) → FairOver w cs d → NoneLower w b d
         safe d fair s l =
@@ -188,7 +170,7 @@ module _ (w : Market) (sound : SoundMarket w) (cs : List ℕ) (choice : IsChoice
             let differ : w .brewPlace s (brewOf d s) ≡ w .brewPlace s (brewOf a s) → ⊥ =
             λ e. not-given d fair s l (next .0) (same-brew s (brewOf d s) (brewOf a s) l given (reached .chosen s l) e) in
             next .1 .none-between (brewOf d s) given (omega (arith, reached .safe d fair s l)))
-            (stays-or-next b step s l)
+            (step .stays-or-next s l)
 
     module _ (still : NobodyRefused w a) where
       -- a brew of the choice has no more applicants than lots
@@ -240,7 +222,3 @@ module _ (w : Market) (sound : SoundMarket w) (cs : List ℕ) (choice : IsChoice
             };
             best = reached .safe;
           }
-
-  pub run-reached : {a : List ℕ} → Run w cs a → Reached w cs a
-  run-reached begun = reached-first
-  run-reached (further r step) = reached-further _ (run-reached r) _ step

@@ -1,13 +1,12 @@
--- Deferred acceptance over the brews of a choice.
--- The list of the brews where the takers apply at present is all that a round knows: a taker has been refused by just
--- those brews of the choice that it ranks above the one where it applies.
+-- Deferred acceptance over the brews of a choice, in rounds, as Gale and Shapley have it.
+-- Its state has for each taker the brews of the choice that have not refused it.
 use mathlib.Core.Path.{_≡_}
-use mathlib.Core.Bool.{Bool, true, false, cond, _&&_}
+use mathlib.Core.Bool.{Bool, true, false, not, cond, _&&_}
 use mathlib.Core.List.{List, [], _∷_, map}
 use mathlib.Core.Logic.{_⊎_}
-use Prim.Native.Nat.{ℕ, zero, suc, _*_, _<_, _≤_}
+use Prim.Native.Nat.{ℕ, zero, suc, _*_, _<_}
 use lib.Dec.{eqb, ltb, leb}
-use lib.ListN.{length}
+use lib.ListN.{getD, replicate}
 use Rattle.std.specs.Iters.{counting}
 use Rattle.std.specs.shelf.Lists.{kept-by}
 use Rattle.tally.specs.Tally.{tally}
@@ -24,44 +23,43 @@ abbrev pub favourite : Market → ℕ → List ℕ → ℕ
 favourite w s [] = 0
 favourite w s (c ∷ cs) = higher w s c (favourite w s cs)
 
--- the brew of the choice that follows brew c in the order of taker s, or 0 where none does
-abbrev pub nextBrew : Market → List ℕ → ℕ → ℕ → ℕ
-nextBrew w cs s c = favourite w s (kept-by (prefers w s c) cs)
+-- Everybody applies to its favourite of the brews that have not refused it.
+abbrev pub applications : Market → List (List ℕ) → List ℕ
+applications w left = map (λ s. favourite w s (getD left s [])) (counting 0 (w .figures .takers))
 
--- everybody applies to its favourite brew of the choice
-abbrev pub firstBrews : Market → List ℕ → List ℕ
-firstBrews w cs = map (λ s. favourite w s cs) (counting 0 (w .figures .takers))
-
--- how many applicants of brew c it ranks above taker s
+-- how many applicants of brew c it ranks above taker s, where a lists the brews that the takers apply to
 abbrev pub ahead : Market → List ℕ → ℕ → ℕ → ℕ
 ahead w a c s = tally (λ t. eqb (brewOf a t) c && favours w c t s) (w .figures .takers)
 
--- Taker s is refused where it applies: the brew has as many better applicants as lots.
+-- A brew keeps its best applicants, one for each lot, and refuses the others: those with so many ahead of them.
 abbrev pub refused : Market → List ℕ → ℕ → Bool
 refused w a s = leb (lotsOf (w .figures) (brewOf a s)) (ahead w a (brewOf a s) s)
-
--- a round: each refused taker applies to its next brew, the others stay
-abbrev pub oneRound : Market → List ℕ → List ℕ → List ℕ
-oneRound w cs a = map (λ s. cond {A = ℕ} (refused w a s) (nextBrew w cs s (brewOf a s)) (brewOf a s)) (counting 0 (w .figures .takers))
-
--- rounds up to the first without a refusal, but no more than the given number
-abbrev pub rounds : Market → List ℕ → ℕ → List ℕ → List ℕ
-rounds w cs zero a = a
-rounds w cs (suc k) a = cond (ltb 0 (tally (refused w a) (w .figures .takers))) (rounds w cs k (oneRound w cs a)) a
-
--- Each round with a refusal takes a brew from some taker's order, so that this many rounds are enough.
-abbrev pub deferredAcceptance : Market → List ℕ → List ℕ
-deferredAcceptance w cs = rounds w cs (w .figures .takers * w .figures .brews) (firstBrews w cs)
 
 abbrev pub NobodyRefused : Market → List ℕ → Type 0
 NobodyRefused w a = (s : ℕ) → s < w .figures .takers → refused w a s ≡ false
 
--- A step that refuses one, some or all of those who may be refused, or nobody.
-pub record SomeRefused (w : Market) (cs a b : List ℕ) : Type 0 where
-  pub each : length b ≡ w .figures .takers
-  pub stays-or-moves : (s : ℕ) → s < w .figures .takers → (brewOf b s ≡ brewOf a s) ⊎ ((refused w a s ≡ true) × (brewOf b s ≡ nextBrew w cs s (brewOf a s)))
+-- the brews of a list but for c
+abbrev pub without : ℕ → List ℕ → List ℕ
+without c cs = kept-by (λ d. not (eqb d c)) cs
 
--- The lists that are reached by such steps, in any order.
-pub data Run (w : Market) (cs : List ℕ) : List ℕ → Type 0 where
-  begun : Run w cs (firstBrews w cs)
-  further : {a b : List ℕ} → Run w cs a → SomeRefused w cs a b → Run w cs b
+-- what each taker has left after a round in which the takers apply to the brews of a
+abbrev pub afterRefusals : Market → List (List ℕ) → List ℕ → List (List ℕ)
+afterRefusals w left a = map (λ s. cond (refused w a s) (without (brewOf a s) (getD left s [])) (getD left s [])) (counting 0 (w .figures .takers))
+
+-- rounds up to the first without a refusal, but no more than the given number
+abbrev pub rounds : Market → ℕ → List (List ℕ) → List (List ℕ)
+rounds w zero left = left
+rounds w (suc k) left = cond (ltb 0 (tally (refused w (applications w left)) (w .figures .takers))) (rounds w k (afterRefusals w left (applications w left))) left
+
+-- Each round with a refusal takes a brew from a taker, so that this many rounds are enough.
+abbrev pub deferredAcceptance : Market → List ℕ → List ℕ
+deferredAcceptance w cs = applications w (rounds w (w .figures .takers * w .figures .brews) (replicate (w .figures .takers) cs))
+
+-- A step that refuses one, some or all of those that may be refused, or nobody.
+abbrev pub SomeRefused : Market → List (List ℕ) → List (List ℕ) → Type 0
+SomeRefused w left next = (s : ℕ) → s < w .figures .takers → (getD next s [] ≡ getD left s []) ⊎ ((refused w (applications w left) s ≡ true) × (getD next s [] ≡ without (brewOf (applications w left) s) (getD left s [])))
+
+-- What is reached by such steps, in whatever order.
+pub data Run (w : Market) (cs : List ℕ) : List (List ℕ) → Type 0 where
+  begun : Run w cs (replicate (w .figures .takers) cs)
+  further : {left next : List (List ℕ)} → Run w cs left → SomeRefused w left next → Run w cs next
