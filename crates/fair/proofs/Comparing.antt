@@ -1,16 +1,15 @@
 -- Laws of better, a test that computes it, and that a best fair allotment is unique.
 use mathlib.Core.Path.{_≡_, sym, _∙_}
-use mathlib.Core.Bool.{Bool, true, false, _&&_}
+use mathlib.Core.Bool.{Bool, true, _&&_}
 use mathlib.Core.List.{List}
 use Prim.Native.Nat.{ℕ, _<_}
 use native.Mathlib.Omega.{arith}
 use lib.Dec.{eqb, leb}
 use Rattle.std.proofs.shelf.Lists.{ext-getD}
 use Rattle.std.proofs.shelf.Tests.{eq-eqb, eqb-true, le-leb, leb-true, le-ltb, lt-ltb, ltb-true, ltb-false, and-from, and-parts}
-use Rattle.tally.specs.Tally.{tally}
 use Rattle.tally.proofs.Tallies.{tally-mono, tally-none, tally-fails}
 use Rattle.fair.specs.Markets.{Market, SoundMarket, prefers}
-use Rattle.fair.specs.Allotments.{brewOf, gains, NoneLower, Better, FairOver, BestFair}
+use Rattle.fair.specs.Allotments.{brewOf, gains, NoneLower, Better, BestFair}
 
 -- a is better than b: nobody gains from a to b, and somebody does from b to a
 abbrev pub isBetter : Market → List ℕ → List ℕ → Bool

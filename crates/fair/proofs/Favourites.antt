@@ -1,18 +1,15 @@
 -- The favourite brew of a list, and the next one in a taker's order.
-use mathlib.Core.Path.{_≡_, refl, sym, ap, subst, _∙_}
-use mathlib.Core.Bool.{Bool, true, false, cond, _&&_, _||_}
+use mathlib.Core.Path.{_≡_, refl, ap, subst}
+use mathlib.Core.Bool.{true, false}
 use mathlib.Core.List.{List, [], _∷_}
 use mathlib.Core.Logic.{_⊎_, inl, inr, ⊎-elim}
 use Prim.Native.Nat.{ℕ, zero, suc, _<_, _≤_}
 use native.Mathlib.Omega.{arith}
-use lib.Dec.{eqb, ltb}
-use Rattle.std.specs.shelf.Lists.{kept-by}
-use Rattle.std.proofs.shelf.Tests.{cases-bool, cases-lt, both-ways, eq-eqb, ne-eqb, eqb-true, cond-true, cond-false, cond-both, ltb-true, ltb-false, lt-ltb, and-parts, and-from, or-cases, or-left, or-right}
-use Rattle.std.proofs.shelf.Ways.{tells}
+use Rattle.std.proofs.shelf.Tests.{cases-lt, both-ways, cond-both, ltb-true, ltb-false}
 use Rattle.fair.specs.Markets.{Market, prefers}
 use Rattle.fair.specs.Choices.{among}
 use Rattle.fair.specs.Acceptance.{higher, favourite}
-use Rattle.fair.proofs.Choosing.{among-first, among-later, among-cases, among-kept}
+use Rattle.fair.proofs.Choosing.{among-first, among-later, among-cases}
 
 module _ (w : Market) (s : ℕ) where
   -- d is a brew of the list, and taker s ranks no brew of the list higher

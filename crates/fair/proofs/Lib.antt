@@ -6,3 +6,6 @@ pub mod Comparing
 pub mod Reached
 pub mod Rounds
 pub mod Settling
+pub mod Lowest
+pub mod Verdicts
+pub mod FromBooks

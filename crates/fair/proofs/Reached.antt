@@ -1,20 +1,20 @@
 -- What deferred acceptance keeps of the list of the brews that the takers apply to, and why it ends in the best fair
 -- allotment.
 use mathlib.Core.Path.{_≡_, refl, sym, ap, subst, _∙_}
-use mathlib.Core.Bool.{Bool, true, false, not, cond, _&&_}
-use mathlib.Core.List.{List, [], _∷_}
+use mathlib.Core.Bool.{Bool, true, false, not, _&&_}
+use mathlib.Core.List.{List}
 use mathlib.Core.Logic.{_⊎_, inl, inr, ⊎-elim}
-use Prim.Native.Nat.{ℕ, zero, suc, _<_, _≤_}
+use Prim.Native.Nat.{ℕ, _<_, _≤_}
 use native.Mathlib.Omega.{arith}
 use lib.Dec.{eqb, ltb, leb}
 use lib.ListN.{length}
 use Rattle.std.proofs.shelf.Tests.{cases-bool, cases-eq, cases-lt, cases-order, both-ways, eq-eqb, eqb-true, lt-ltb, le-ltb, ltb-true, le-leb, leb-true, and-parts, and-from, and-right, not-from-true, not-from-false, ne-eqb}
-use Rattle.tally.specs.Tally.{tally, total}
+use Rattle.tally.specs.Tally.{tally}
 use Rattle.tally.proofs.Tallies.{tally-mono, tally-strict, tally-some, tally-fails, tally-below, tally-always, tally-same}
 use Rattle.tally.proofs.Ranks.{front, front-stays, crowded}
 use Rattle.fair.specs.Markets.{Market, SoundMarket, lotsOf, prefers, favours, isBrew}
 use Rattle.fair.specs.Choices.{among, IsChoice}
-use Rattle.fair.specs.Allotments.{brewOf, takersWith, Feasible, Over, justlyEnvies, Fair, NoneLower, FairOver, BestFair}
+use Rattle.fair.specs.Allotments.{brewOf, takersWith, Over, justlyEnvies, Fair, NoneLower, FairOver, BestFair}
 use Rattle.fair.specs.Acceptance.{ahead, refused, NobodyRefused}
 use Rattle.fair.proofs.Choosing.{choice-within, choice-serves-all, total-mono, total-squeeze, count-by-brew}
 use Rattle.fair.proofs.Favourites.{IsFavourite, IsNext, next-or-last}
@@ -59,7 +59,8 @@ module _ (w : Market) (sound : SoundMarket w) (cs : List ℕ) (choice : IsChoice
         each = each;
         chosen = λ s l. first s l .listed;
         outranked = λ s c l t above. absurd (omega (arith, ltb-true _ _ above, first s l .highest c t));
-        safe = λ b fair s l. first s l .highest (brewOf b s) (over-chosen w cs b (fair .over) s l) }
+        safe = λ b fair s l. first s l .highest (brewOf b s) (over-chosen w cs b (fair .over) s l);
+      }
 
   -- A step leaves as many better applicants as lots: the front of a brew's applicants is not refused.
   ahead-stays : (a b : List ℕ) → Moves w cs a b → (c s : ℕ) → lotsOf (w .figures) c ≤ ahead w a c s → lotsOf (w .figures) c ≤ ahead w b c s

@@ -3,16 +3,16 @@
 use mathlib.Core.Path.{_≡_, refl, sym, ap, subst, _∙_}
 use mathlib.Core.Bool.{Bool, true, false, not, cond, _&&_}
 use mathlib.Core.List.{List, [], _∷_}
-use mathlib.Core.Logic.{_⊎_, inl, inr, ⊎-elim}
-use Prim.Native.Nat.{ℕ, zero, suc, _+_, _-_, _*_, _<_, _≤_}
+use mathlib.Core.Logic.{inl, inr, ⊎-elim}
+use Prim.Native.Nat.{ℕ, zero, suc, _-_, _*_, _<_, _≤_}
 use native.Mathlib.Omega.{arith}
-use lib.Dec.{eqb, ltb}
-use lib.ListN.{length, getD, replicate}
+use lib.Dec.{eqb}
+use lib.ListN.{getD, replicate}
 use Rattle.std.proofs.shelf.Counted.{length-map-counting, getD-map-counting}
 use Rattle.std.proofs.shelf.Lists.{getD-replicate}
 use Rattle.std.proofs.shelf.Tests.{cases-bool, cases-lt, lt-ltb, le-ltb, ltb-true, and-parts, and-from, and-right, cond-true, cond-false, not-true, not-from-false, both-ways, eq-eqb, ne-eqb, ltb-false}
 use Rattle.tally.specs.Tally.{tally, total}
-use Rattle.tally.proofs.Tallies.{tally-mono, tally-strict, tally-some, tally-none, tally-le}
+use Rattle.tally.proofs.Tallies.{tally-strict, tally-none, tally-le}
 use Rattle.tally.proofs.Sums.{sum-below, sum-strict, sum-le}
 use Rattle.tally.proofs.Ranks.{greatest}
 use Rattle.fair.specs.Markets.{Market, SoundMarket, lotsOf, prefers, isBrew}
@@ -92,10 +92,12 @@ module _ (w : Market) (sound : SoundMarket w) (cs : List ℕ) (choice : IsChoice
   standing-first =
       record {
         lists = λ s c l. ap (λ ds. among ds c) (all s l) ∙ same-tests _ _ (λ t. and-from _ _ t (not-from-false _ (le-ltb _ _ (first s l .highest c t)))) (λ both. and-parts _ _ both .0);
-        reached = reached-first w sound cs choice _ (length-map-counting _ 0 (w .figures .takers)) first }
+        reached = reached-first w sound cs choice _ (length-map-counting _ 0 (w .figures .takers)) first;
+      }
     where
       all : (s : ℕ) → s < w .figures .takers → getD (replicate (w .figures .takers) cs) s [] ≡ cs
       all s l = getD-replicate (w .figures .takers) s cs [] l
+
       first : (s : ℕ) → s < w .figures .takers → IsFavourite w s cs (brewOf (applications w (replicate (w .figures .takers) cs)) s)
       first s l =
           let one = some-brew (lotsOf (w .figures)) cs (omega (arith, choice-serves-all (w .figures) cs (sound .limits) choice)) in
@@ -150,20 +152,22 @@ module _ (w : Market) (sound : SoundMarket w) (cs : List ℕ) (choice : IsChoice
           record {
             each = length-map-counting _ 0 (w .figures .takers);
             stays-or-next = λ s l.
-            ⊎-elim (λ (same : getD after s [] ≡ getD before s []). inl (keeps-brew s l same))
-            (λ (loses : (refused w a s ≡ true) × (getD after s [] ≡ without (brewOf a s) (getD before s []))). inr (loses .0, next s l (loses .0) (loses .1)))
-            (step s l) }
+                ⊎-elim (λ (same : getD after s [] ≡ getD before s []). inl (keeps-brew s l same))
+                (λ (loses : (refused w a s ≡ true) × (getD after s [] ≡ without (brewOf a s) (getD before s []))). inr (loses .0, next s l (loses .0) (loses .1)))
+                (step s l);
+          }
 
       standing-further : Standing after
       standing-further =
           record {
             lists = λ s c l.
-            ⊎-elim
-            (λ (same : getD after s [] ≡ getD before s []).
-            ap (λ ds. among ds c) same ∙ standing .lists s c l ∙ ap (λ d. among cs c && not (prefers w s c d)) (keeps-brew s l same))
-            (λ (loses : (refused w a s ≡ true) × (getD after s [] ≡ without (brewOf a s) (getD before s []))). still-lists s l (loses .0) (loses .1) c)
-            (step s l);
-            reached = reached-further w sound cs choice a (standing .reached) _ run-moves }
+                ⊎-elim
+                (λ (same : getD after s [] ≡ getD before s []).
+                ap (λ ds. among ds c) same ∙ standing .lists s c l ∙ ap (λ d. among cs c && not (prefers w s c d)) (keeps-brew s l same))
+                (λ (loses : (refused w a s ≡ true) × (getD after s [] ≡ without (brewOf a s) (getD before s []))). still-lists s l (loses .0) (loses .1) c)
+                (step s l);
+            reached = reached-further w sound cs choice a (standing .reached) _ run-moves;
+          }
 
   run-standing : {left : List (List ℕ)} → Run w cs left → Standing left
   run-standing begun = standing-first

@@ -1,9 +1,9 @@
 -- The settlement exists, is unique, and nothing feasible and fair is better; nor than a proposal that passes its tests.
-use mathlib.Core.Path.{_≡_, refl, sym, ap, subst, _∙_}
-use mathlib.Core.Bool.{Bool, true, false, cond, _||_}
+use mathlib.Core.Path.{_≡_, sym, ap, subst, _∙_}
+use mathlib.Core.Bool.{true, false, cond, _||_}
 use mathlib.Core.List.{List}
-use mathlib.Core.Logic.{_⊎_, inl, inr, ⊎-elim}
-use Prim.Native.Nat.{ℕ, zero, suc, _+_, _-_, _<_, _≤_}
+use mathlib.Core.Logic.{inl, inr, ⊎-elim}
+use Prim.Native.Nat.{ℕ, zero, suc, _<_, _≤_}
 use native.Mathlib.Omega.{arith}
 use lib.Dec.{eqb}
 use lib.ListN.{length}
@@ -11,7 +11,7 @@ use Rattle.std.proofs.shelf.Tests.{cases-bool, cases-eq, both-ways, eq-eqb, eqb
 use Rattle.tally.proofs.Tallies.{tally-mono}
 use Rattle.fair.specs.Markets.{Market, SoundMarket, lotsOf, prefers}
 use Rattle.fair.specs.Choices.{among, IsChoice, choices, choiceAt}
-use Rattle.fair.specs.Allotments.{brewOf, takersWith, NamesBrews, Feasible, Over, Fair, NoneLower, Better, FairOver, BestFair, claimants}
+use Rattle.fair.specs.Allotments.{brewOf, takersWith, NamesBrews, Feasible, Over, Fair, NoneLower, Better, BestFair, claimants}
 use Rattle.fair.specs.Acceptance.{deferredAcceptance}
 use Rattle.fair.specs.Settlement.{HeldNext, Held, Settlement, Unbettered}
 use Rattle.fair.specs.Proposals.{Passes}
@@ -73,6 +73,12 @@ module _ (w : Market) (sound : SoundMarket w) where
         let same-best = best-is-unique w sound _ _ _ (second .3) (first .3) in
         held-next-unique w (first .0) (first .1) a b (first .4)
         (subst (λ d. HeldNext w (first .0) d b) same-best (subst (λ h. HeldNext w h (second .1) b) same-held (second .4)))
+
+    pub settlement-exists : Settlement w house (heldAfter w house count)
+    settlement-exists = held-exists count (omega arith)
+
+    pub settlement-unique : (a b : List ℕ) → Settlement w house a → Settlement w house b → a ≡ b
+    settlement-unique = held-unique count
 
     -- What is held after some choices: feasible, fair, nobody lower than in the house's best fair allotment,
     -- and none of the choices gone through has a better one.

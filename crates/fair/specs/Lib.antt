@@ -4,3 +4,4 @@ pub mod Allotments
 pub mod Acceptance
 pub mod Settlement
 pub mod Proposals
+pub mod FromBooks

@@ -1,6 +1,6 @@
 -- The tests of a proposed list, in their order, and what each names.
 use mathlib.Core.Path.{_≡_}
-use mathlib.Core.Bool.{Bool, true, false}
+use mathlib.Core.Bool.{true, false}
 use mathlib.Core.List.{List}
 use Prim.Native.Nat.{ℕ, _-_, _<_, _≤_}
 use lib.ListN.{length}
@@ -24,6 +24,10 @@ Envious w a t = (r : ℕ) × (c : ℕ) × (r < w .figures .takers) × (justlyEnv
 abbrev pub LowerThanHouse : Market → List ℕ → List ℕ → ℕ → Type 0
 LowerThanHouse w house a t = (b : List ℕ) × BestFair w house b × (w .brewPlace (t - 1) (brewOf b (t - 1)) < w .brewPlace (t - 1) (brewOf a (t - 1)))
 
+-- no taker is
+abbrev pub NotLowerThanHouse : Market → List ℕ → List ℕ → Type 0
+NotLowerThanHouse w house a = (b : List ℕ) → BestFair w house b → NoneLower w a b
+
 -- the best fair allotment over the choice with the ordinal o is better
 abbrev pub BetterOver : Market → List ℕ → ℕ → Type 0
 BetterOver w a o = (d : List ℕ) × BestFair w (choiceAt (w .figures) (o - 1)) d × Better w d a
@@ -33,7 +37,7 @@ pub record Passes (w : Market) (house a : List ℕ) : Type 0 where
   pub names-brews : NamesBrews w a
   pub full : (c : ℕ) → isBrew w c → FullOrClosed w a c
   pub fair : Fair w a
-  pub not-lower : (b : List ℕ) → BestFair w house b → NoneLower w a b
+  pub not-lower : NotLowerThanHouse w house a
   pub not-bettered : (o : ℕ) → 1 ≤ o → o ≤ length (choices (w .figures)) → BetterOver w a o → ⊥
 
 -- A list passes, or one test is the first that it fails: by its length or the lowest taker without a brew of the round,
@@ -54,4 +58,4 @@ Judged w house a (NoBrew t) = (length a ≡ w .figures .takers) × Lowest (w .fi
 Judged w house a (NotFull c) = NamesBrews w a × Lowest (w .figures .brews) (λ k. FullOrClosed w a k → ⊥) c
 Judged w house a (Envies t) = Feasible w a × Lowest (w .figures .takers) (Envious w a) t
 Judged w house a (Lower t) = Feasible w a × Fair w a × Lowest (w .figures .takers) (LowerThanHouse w house a) t
-Judged w house a (Bettered o) = Feasible w a × Fair w a × ((b : List ℕ) → BestFair w house b → NoneLower w a b) × Lowest (length (choices (w .figures))) (BetterOver w a) o
+Judged w house a (Bettered o) = Feasible w a × Fair w a × NotLowerThanHouse w house a × Lowest (length (choices (w .figures))) (BetterOver w a) o

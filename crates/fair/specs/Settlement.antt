@@ -6,7 +6,7 @@ use Prim.Native.Nat.{ℕ, zero, suc}
 use lib.ListN.{length}
 use Rattle.fair.specs.Markets.{Market}
 use Rattle.fair.specs.Choices.{choices, choiceAt}
-use Rattle.fair.specs.Allotments.{Feasible, Fair, FairOver, BestFair, NoneLower, Better}
+use Rattle.fair.specs.Allotments.{Feasible, Fair, FairOver, BestFair, NoneLower, gains, Better}
 
 -- With h held and d the best fair allotment over the choice that comes, e is held from then on.
 abbrev pub HeldNext : Market → List ℕ → List ℕ → List ℕ → Type 0
@@ -19,6 +19,10 @@ Held w house (suc i) e = (h : List ℕ) × (d : List ℕ) × Held w house i h ×
 
 abbrev pub Settlement : Market → List ℕ → List ℕ → Type 0
 Settlement w house a = Held w house (length (choices (w .figures))) a
+
+-- The gains of an allotment are n: so many takers rank their brew higher than in the house's best fair allotment.
+abbrev pub Gains : Market → List ℕ → List ℕ → ℕ → Type 0
+Gains w house a n = (b : List ℕ) × BestFair w house b × (gains w a b ≡ n)
 
 -- Feasible and fair, for every taker at least as high as any feasible fair allotment over the house's brews,
 -- and no feasible fair allotment, over whatever brews, is better.

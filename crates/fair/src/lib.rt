@@ -1,1 +1,7 @@
-//! Fair allotment: definitions in specs/, and theorems on the contracts of the functions here.
+//! Fair allotment: its definitions are in specs/, and each theorem is the contract of a function here.
+
+pub mod acceptance;
+pub mod books;
+pub mod choices;
+pub mod proposals;
+pub mod settlement;

@@ -1,9 +1,8 @@
 -- Laws of adding up over the numbers below a bound.
-use mathlib.Core.Path.{_≡_, sym, ap, subst}
+use mathlib.Core.Path.{_≡_, subst}
 use mathlib.Core.Logic.{⊎-elim}
 use Prim.Native.Nat.{ℕ, zero, suc, _+_, _*_, _<_, _≤_}
 use native.Mathlib.Omega.{arith}
-use native.Mathlib.Nat.{add-mul}
 use Rattle.std.proofs.shelf.Tests.{cases-eq}
 
 -- f 0 + .. + f (n - 1)
