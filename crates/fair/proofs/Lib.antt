@@ -9,3 +9,4 @@ pub mod Settling
 pub mod Lowest
 pub mod Verdicts
 pub mod FromBooks
+pub mod Loop

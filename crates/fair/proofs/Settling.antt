@@ -1,9 +1,10 @@
 -- The settlement exists, is unique, and nothing feasible and fair is better; nor than a proposal that passes its tests.
-use mathlib.Core.Path.{_≡_, sym, ap, subst, _∙_}
+use mathlib.Core.Path.{_≡_, refl, sym, ap, subst, _∙_}
 use mathlib.Core.Bool.{true, false, cond, _||_}
 use mathlib.Core.List.{List}
 use mathlib.Core.Logic.{inl, inr, ⊎-elim}
-use Prim.Native.Nat.{ℕ, zero, suc, _<_, _≤_}
+use Prim.Native.Nat.{ℕ, zero, suc, _+_, _<_, _≤_}
+use native.Mathlib.Numerals.{add-one}
 use native.Mathlib.Omega.{arith}
 use lib.Dec.{eqb}
 use lib.ListN.{length}
@@ -13,7 +14,7 @@ use Rattle.fair.specs.Markets.{Market, SoundMarket, lotsOf, prefers}
 use Rattle.fair.specs.Choices.{among, IsChoice, choices, choiceAt}
 use Rattle.fair.specs.Allotments.{brewOf, takersWith, NamesBrews, Feasible, Over, Fair, NoneLower, Better, BestFair, claimants}
 use Rattle.fair.specs.Acceptance.{deferredAcceptance}
-use Rattle.fair.specs.Settlement.{HeldNext, Held, Settlement, Unbettered}
+use Rattle.fair.specs.Settlement.{HeldNext, Held, Settlement, FairAndUnbettered}
 use Rattle.fair.specs.Proposals.{Passes}
 use Rattle.fair.proofs.Comparing.{isBetter, better-from-test, test-from-better, none-lower-trans, better-above, better-below, not-better-itself, best-is-unique}
 use Rattle.fair.proofs.Listing.{choices-listed}
@@ -60,7 +61,33 @@ module _ (w : Market) (sound : SoundMarket w) where
       let best = acceptance-is-best w sound (choiceAt (w .figures) (over .0)) (choice-at (over .0) (over .1)) in
       not-bettered (over .0) (over .1) _ best (better-above w _ b a (best .best b (record { feasible = feasible; over = over .2; fair = fair })) better)
 
+  -- A brew with fewer claimants than lots cannot be filled by takers who are no lower, so that no feasible allotment
+  -- over a choice with it is better.
+  pub too-few-claimants : (a : List ℕ) → NamesBrews w a → (cs : List ℕ) (c : ℕ) → among cs c ≡ true → claimants w a c < lotsOf (w .figures) c → (b : List ℕ) → Feasible w b → Over w cs b → Better w b a → ⊥
+  too-few-claimants a named cs c listed few b feasible over better =
+      let claims : (s : ℕ) → s < w .figures .takers → eqb (brewOf b s) c ≡ true → (eqb (brewOf a s) c || prefers w s c (brewOf a s)) ≡ true =
+      λ s l has.
+      let at : brewOf b s ≡ c = eqb-true _ _ has in
+      ⊎-elim (λ (e : brewOf a s ≡ c). or-left _ _ (eq-eqb _ _ e))
+      (λ (ne : brewOf a s ≡ c → ⊥).
+      let differ : w .brewPlace s (brewOf a s) ≡ w .brewPlace s (brewOf b s) → ⊥ =
+      λ e. ne (sound .brews-apart s (brewOf a s) (brewOf b s) l (named .known s l) (feasible .names-brews .known s l) e ∙ at) in
+      or-right _ _ (lt-ltb (w .brewPlace s c) (w .brewPlace s (brewOf a s)) (omega (arith, better .none-lower s l, ap (w .brewPlace s) at))))
+      (cases-eq (brewOf a s) c) in
+      let no-more : takersWith w b c ≤ claimants w a c =
+      tally-mono (λ s. eqb (brewOf b s) c) (λ s. eqb (brewOf a s) c || prefers w s c (brewOf a s)) (w .figures .takers) claims in
+      let open-here : 0 < takersWith w b c = ltb-true 0 _ (over c ∙ listed) in
+      ⊎-elim (λ (e : takersWith w b c ≡ 0). omega arith) (λ (e : takersWith w b c ≡ lotsOf (w .figures) c). omega arith) (feasible .full c)
+
   module _ (house : List ℕ) (choice : IsChoice (w .figures) house) where
+    -- The steps of a loop over the choices, at index i: the best fair allotment there is better, or not, or need not be
+    -- known.
+    pub held-takes : (i : ℕ) (h d : List ℕ) → Held w house i h → BestFair w (choiceAt (w .figures) i) d → Better w d h → Held w house (i + 1) d
+    held-takes i h d held best better = rw (add-one i) (h, d, held, best, inl (better, refl))
+
+    pub held-keeps : (i : ℕ) (h d : List ℕ) → Held w house i h → BestFair w (choiceAt (w .figures) i) d → (Better w d h → ⊥) → Held w house (i + 1) h
+    held-keeps i h d held best not-better = rw (add-one i) (h, d, held, best, inr (not-better, refl))
+
     pub held-exists : (i : ℕ) → i ≤ count → Held w house i (heldAfter w house i)
     held-exists zero l = acceptance-is-best w sound house choice
     held-exists (suc i) l =
@@ -119,8 +146,8 @@ module _ (w : Market) (sound : SoundMarket w) where
         next
 
     -- For what has been found feasible, fair and not lower, and not bettered over any choice.
-    unbettered : (a : List ℕ) → HeldFacts count a → Unbettered w house a
-    unbettered a facts =
+    fair-and-unbettered : (a : List ℕ) → HeldFacts count a → FairAndUnbettered w house a
+    fair-and-unbettered a facts =
         record {
           feasible = facts .feasible;
           fair = facts .fair;
@@ -128,12 +155,12 @@ module _ (w : Market) (sound : SoundMarket w) where
           none-better = none-better a (facts .not-bettered);
         }
 
-    pub settlement-unbettered : (a : List ℕ) → Settlement w house a → Unbettered w house a
-    settlement-unbettered a settled = unbettered a (held-facts count a settled)
+    pub settlement-fair-and-unbettered : (a : List ℕ) → Settlement w house a → FairAndUnbettered w house a
+    settlement-fair-and-unbettered a settled = fair-and-unbettered a (held-facts count a settled)
 
-    pub passed-unbettered : (a : List ℕ) → Passes w house a → Unbettered w house a
-    passed-unbettered a passes =
-        unbettered a
+    pub passed-fair-and-unbettered : (a : List ℕ) → Passes w house a → FairAndUnbettered w house a
+    passed-fair-and-unbettered a passes =
+        fair-and-unbettered a
         (record {
           feasible = feasible-from-brews w a (passes .names-brews) (passes .full);
           fair = passes .fair;
@@ -142,20 +169,8 @@ module _ (w : Market) (sound : SoundMarket w) where
               passes .not-bettered (suc j) (omega arith) (omega arith) (d, subst (λ i. BestFair w (choiceAt (w .figures) i) d) (omega arith) best, better);
         })
 
-  -- A brew with fewer claimants than lots cannot be filled by takers who are no lower, so that no feasible allotment
-  -- over a choice with it is better.
-  pub too-few-claimants : (a : List ℕ) → NamesBrews w a → (cs : List ℕ) (c : ℕ) → among cs c ≡ true → claimants w a c < lotsOf (w .figures) c → (b : List ℕ) → Feasible w b → Over w cs b → Better w b a → ⊥
-  too-few-claimants a named cs c listed few b feasible over better =
-      let claims : (s : ℕ) → s < w .figures .takers → eqb (brewOf b s) c ≡ true → (eqb (brewOf a s) c || prefers w s c (brewOf a s)) ≡ true =
-      λ s l has.
-      let at : brewOf b s ≡ c = eqb-true _ _ has in
-      ⊎-elim (λ (e : brewOf a s ≡ c). or-left _ _ (eq-eqb _ _ e))
-      (λ (ne : brewOf a s ≡ c → ⊥).
-      let differ : w .brewPlace s (brewOf a s) ≡ w .brewPlace s (brewOf b s) → ⊥ =
-      λ e. ne (sound .brews-apart s (brewOf a s) (brewOf b s) l (named .known s l) (feasible .names-brews .known s l) e ∙ at) in
-      or-right _ _ (lt-ltb (w .brewPlace s c) (w .brewPlace s (brewOf a s)) (omega (arith, better .none-lower s l, ap (w .brewPlace s) at))))
-      (cases-eq (brewOf a s) c) in
-      let no-more : takersWith w b c ≤ claimants w a c =
-      tally-mono (λ s. eqb (brewOf b s) c) (λ s. eqb (brewOf a s) c || prefers w s c (brewOf a s)) (w .figures .takers) claims in
-      let open-here : 0 < takersWith w b c = ltb-true 0 _ (over c ∙ listed) in
-      ⊎-elim (λ (e : takersWith w b c ≡ 0). omega arith) (λ (e : takersWith w b c ≡ lotsOf (w .figures) c). omega arith) (feasible .full c)
+    pub held-passes-over : (i : ℕ) (h : List ℕ) → i < count → Held w house i h → (c : ℕ) → among (choiceAt (w .figures) i) c ≡ true → claimants w h c < lotsOf (w .figures) c → Held w house (i + 1) h
+    held-passes-over i h l held c listed few =
+        let best = acceptance-is-best w sound (choiceAt (w .figures) i) (choice-at i l) in
+        held-keeps i h _ held best
+        (too-few-claimants h (held-facts i h held .feasible .names-brews) _ c listed few _ (best .fair-over .feasible) (best .fair-over .over))

@@ -26,7 +26,7 @@ Gains w house a n = (b : List ℕ) × BestFair w house b × (gains w a b ≡ n)
 
 -- Feasible and fair, for every taker at least as high as any feasible fair allotment over the house's brews,
 -- and no feasible fair allotment, over whatever brews, is better.
-pub record Unbettered (w : Market) (house a : List ℕ) : Type 0 where
+pub record FairAndUnbettered (w : Market) (house a : List ℕ) : Type 0 where
   pub feasible : Feasible w a
   pub fair : Fair w a
   pub house-not-higher : (b : List ℕ) → FairOver w house b → NoneLower w a b

@@ -7,7 +7,7 @@ ghost use Prim.Native.Nat.{ℕ, _<_};
 ghost use Rattle.fair.specs.Allotments.{Better, claimants, Feasible, Over};
 ghost use Rattle.fair.specs.Choices.{among, IsChoice};
 ghost use Rattle.fair.specs.Markets.{lotsOf, Market, SoundMarket};
-ghost use Rattle.fair.specs.Settlement.{Settlement, Unbettered};
+ghost use Rattle.fair.specs.Settlement.{Settlement, FairAndUnbettered};
 
 /// From every house choice there is exactly one settlement.
 pub fn settlement_is_unique()
@@ -16,8 +16,8 @@ pub fn settlement_is_unique()
 
 /// A settlement is feasible and fair, no taker is lower than in any feasible fair allotment over the house's brews,
 /// and no feasible fair allotment is better.
-pub fn settlement_is_unbettered()
-    ensures { λ _. ⌜ ((w : Market) → SoundMarket w → (house : List ℕ) → IsChoice (w .figures) house → (a : List ℕ) → Settlement w house a → Unbettered w house a) ⌝ }
+pub fn settlement_is_fair_and_unbettered()
+    ensures { λ _. ⌜ ((w : Market) → SoundMarket w → (house : List ℕ) → IsChoice (w .figures) house → (a : List ℕ) → Settlement w house a → FairAndUnbettered w house a) ⌝ }
 {}
 
 /// No feasible allotment over a choice is better than the one held, where a brew of the choice has fewer claimants than
