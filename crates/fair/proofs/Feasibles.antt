@@ -16,7 +16,7 @@ use Rattle.orders.specs.Books.{within}
 use Rattle.tally.specs.Tally.{total}
 use Rattle.tally.proofs.Tallies.{tally-fails, tally-always, tally-same}
 use Rattle.tally.proofs.Totals.{total-all-or-nothing}
-use Rattle.fair.specs.Markets.{Market, InLimits, isBrew}
+use Rattle.fair.specs.Markets.{Market, InLimits, IsBrew}
 use Rattle.fair.specs.Choices.{among, IsChoice, choices, choiceAt}
 use Rattle.fair.specs.Allotments.{brewOf, takersWith, NamesBrews, FullOrClosed, Feasible, Over}
 use Rattle.fair.proofs.Choosing.{count-by-brew, among-kept, ascending-kept, among-all, ascending-all}
@@ -24,10 +24,10 @@ use Rattle.fair.proofs.Listing.{choices-listed}
 
 pub no-brew-not-taken : (w : Market) (a : List ℕ) → NamesBrews w a → (c : ℕ) → within c (w .figures .brews) ≡ false → takersWith w a c ≡ 0
 no-brew-not-taken w a named c e =
-    tally-fails _ (w .figures .takers) (λ s l. ne-eqb (brewOf a s) c (λ same. both-ways (within c (w .figures .brews)) e (subst (isBrew w) same (named .known s l))))
+    tally-fails _ (w .figures .takers) (λ s l. ne-eqb (brewOf a s) c (λ same. both-ways (within c (w .figures .brews)) e (subst (IsBrew w) same (named .known s l))))
 
 -- a list that fills each of the round's brews or leaves it closed
-pub feasible-from-brews : (w : Market) (a : List ℕ) → NamesBrews w a → ((c : ℕ) → isBrew w c → FullOrClosed w a c) → Feasible w a
+pub feasible-from-brews : (w : Market) (a : List ℕ) → NamesBrews w a → ((c : ℕ) → IsBrew w c → FullOrClosed w a c) → Feasible w a
 feasible-from-brews w a named full =
     record {
       names-brews = named;

@@ -110,7 +110,3 @@ choices-listed f = record {
   where
     in-order : (i j : ℕ) → i < j → j < length (choices f) → Before (choiceAt f i) (choiceAt f j)
     in-order = in-order-getD (choices f) (picks-in-order (f .opened) (f .brews) 0 (f .brews) (omega arith))
-
--- how many choices there are at the largest figures
-pub choices-at-largest : length (choices (record { brews = 16; opened = 9; lots = 48; takers = 432 })) ≡ 11440
-choices-at-largest = refl

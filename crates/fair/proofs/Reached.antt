@@ -12,7 +12,7 @@ use Rattle.std.proofs.shelf.Tests.{cases-bool, cases-eq, cases-lt, cases-order,
 use Rattle.tally.specs.Tally.{tally}
 use Rattle.tally.proofs.Tallies.{tally-mono, tally-strict, tally-some, tally-fails, tally-below, tally-always, tally-same}
 use Rattle.tally.proofs.Ranks.{front, front-stays, crowded}
-use Rattle.fair.specs.Markets.{Market, SoundMarket, lotsOf, prefers, favours, isBrew}
+use Rattle.fair.specs.Markets.{Market, SoundMarket, lotsOf, prefers, favours, IsBrew}
 use Rattle.fair.specs.Choices.{among, IsChoice}
 use Rattle.fair.specs.Allotments.{brewOf, takersWith, Over, justlyEnvies, Fair, NoneLower, FairOver, BestFair}
 use Rattle.fair.specs.Acceptance.{ahead, refused, NobodyRefused}
@@ -46,7 +46,7 @@ module _ (w : Market) (sound : SoundMarket w) (cs : List ℕ) (choice : IsChoice
   abbrev takers : ℕ
   takers = w .figures .takers
 
-  known : (c : ℕ) → among cs c ≡ true → isBrew w c
+  known : (c : ℕ) → among cs c ≡ true → IsBrew w c
   known = choice-within (w .figures) cs choice
 
   -- a taker that gives two brews of the choice the same place speaks of one brew

@@ -15,7 +15,7 @@ use Rattle.tally.specs.Tally.{tally, total}
 use Rattle.tally.proofs.Tallies.{tally-strict, tally-none, tally-le}
 use Rattle.tally.proofs.Sums.{sum-below, sum-strict, sum-le}
 use Rattle.tally.proofs.Ranks.{greatest}
-use Rattle.fair.specs.Markets.{Market, SoundMarket, lotsOf, prefers, isBrew}
+use Rattle.fair.specs.Markets.{Market, SoundMarket, lotsOf, prefers, IsBrew}
 use Rattle.fair.specs.Choices.{among, IsChoice}
 use Rattle.fair.specs.Allotments.{brewOf, BestFair}
 use Rattle.fair.specs.Acceptance.{favourite, applications, without, afterRefusals, refused, rounds, deferredAcceptance, NobodyRefused, SomeRefused, Run, begun, further}
@@ -71,7 +71,7 @@ module _ (w : Market) (sound : SoundMarket w) (cs : List ℕ) (choice : IsChoice
       (λ t m.
       ⊎-elim (λ (same : brewOf a t ≡ brewOf b t). omega (arith, ap (leftBelow w cs t) same)) (λ (next : (refused w a t ≡ true) × IsNext w t cs (brewOf a t) (brewOf b t)). omega (arith, left-below-next t _ _ (next .1))) (step .stays-or-next t m))
 
-  known : (c : ℕ) → among cs c ≡ true → isBrew w c
+  known : (c : ℕ) → among cs c ≡ true → IsBrew w c
   known = choice-within (w .figures) cs choice
 
   numbers : (c : ℕ) → among cs c ≡ true → 1 ≤ c

@@ -8,7 +8,7 @@ use lib.Dec.{eqb, ltb}
 use lib.ListN.{length, getD}
 use Rattle.std.specs.Iters.{counting}
 use Rattle.tally.specs.Tally.{tally, total}
-use Rattle.fair.specs.Markets.{Market, lotsOf, prefers, favours, isBrew}
+use Rattle.fair.specs.Markets.{Market, lotsOf, prefers, favours, IsBrew}
 use Rattle.fair.specs.Choices.{among}
 
 -- An allotment is the list of the takers' brews. The brew of taker s:
@@ -22,7 +22,7 @@ takersWith w a c = tally (λ s. eqb (brewOf a s) c) (w .figures .takers)
 -- Every taker has one of the round's brews.
 pub record NamesBrews (w : Market) (a : List ℕ) : Type 0 where
   pub each : length a ≡ w .figures .takers
-  pub known : (s : ℕ) → s < w .figures .takers → isBrew w (brewOf a s)
+  pub known : (s : ℕ) → s < w .figures .takers → IsBrew w (brewOf a s)
 
 -- Brew c has no taker, or one for each of its lots.
 abbrev pub FullOrClosed : Market → List ℕ → ℕ → Type 0
@@ -61,12 +61,13 @@ pub record Better (w : Market) (a b : List ℕ) : Type 0 where
   pub none-lower : NoneLower w a b
   pub some-higher : 1 ≤ gains w a b
 
+-- Feasible and fair, over just the brews of the list.
 pub record FairOver (w : Market) (cs a : List ℕ) : Type 0 where
   pub feasible : Feasible w a
   pub over : Over w cs a
   pub fair : Fair w a
 
--- Feasible and fair over just the choice, and for every taker at least as high as any other such allotment.
+-- The same, and for every taker at least as high as any other such allotment.
 pub record BestFair (w : Market) (cs a : List ℕ) : Type 0 where
   pub fair-over : FairOver w cs a
   pub best : (b : List ℕ) → FairOver w cs b → NoneLower w a b

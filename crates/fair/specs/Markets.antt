@@ -13,6 +13,7 @@ pub record Figures : Type 0 where
   pub lots : ℕ
   pub takers : ℕ
 
+-- There is a brew at least, since one is to be opened.
 pub record InLimits (f : Figures) : Type 0 where
   pub few-brews : f .brews ≤ 16
   pub some-opened : 1 ≤ f .opened
@@ -40,11 +41,12 @@ prefers w s c d = ltb (w .brewPlace s c) (w .brewPlace s d)
 abbrev pub favours : Market → ℕ → ℕ → ℕ → Bool
 favours w c s t = ltb (w .takerPlace c s) (w .takerPlace c t)
 
-abbrev pub isBrew : Market → ℕ → Type 0
-isBrew w c = within c (w .figures .brews) ≡ true
+-- c is the number of a brew of the round
+abbrev pub IsBrew : Market → ℕ → Type 0
+IsBrew w c = within c (w .figures .brews) ≡ true
 
 -- The figures are within their limits, and nobody gives two of those it ranks the same place.
 pub record SoundMarket (w : Market) : Type 0 where
   pub limits : InLimits (w .figures)
-  pub brews-apart : (s c d : ℕ) → s < w .figures .takers → isBrew w c → isBrew w d → w .brewPlace s c ≡ w .brewPlace s d → c ≡ d
-  pub takers-apart : (c s t : ℕ) → isBrew w c → s < w .figures .takers → t < w .figures .takers → w .takerPlace c s ≡ w .takerPlace c t → s ≡ t
+  pub brews-apart : (s c d : ℕ) → s < w .figures .takers → IsBrew w c → IsBrew w d → w .brewPlace s c ≡ w .brewPlace s d → c ≡ d
+  pub takers-apart : (c s t : ℕ) → IsBrew w c → s < w .figures .takers → t < w .figures .takers → w .takerPlace c s ≡ w .takerPlace c t → s ≡ t

@@ -5,7 +5,7 @@ use mathlib.Core.List.{List}
 use Prim.Native.Nat.{ℕ, _-_, _<_, _≤_}
 use lib.ListN.{length}
 use Rattle.orders.specs.Books.{within}
-use Rattle.fair.specs.Markets.{Market, isBrew}
+use Rattle.fair.specs.Markets.{Market, IsBrew}
 use Rattle.fair.specs.Choices.{choices, choiceAt}
 use Rattle.fair.specs.Allotments.{brewOf, NamesBrews, FullOrClosed, Feasible, justlyEnvies, Fair, BestFair, NoneLower, Better}
 
@@ -35,7 +35,7 @@ BetterOver w a o = (d : List ℕ) × BestFair w (choiceAt (w .figures) (o - 1)) 
 -- The list passes all five tests.
 pub record Passes (w : Market) (house a : List ℕ) : Type 0 where
   pub names-brews : NamesBrews w a
-  pub full : (c : ℕ) → isBrew w c → FullOrClosed w a c
+  pub full : (c : ℕ) → IsBrew w c → FullOrClosed w a c
   pub fair : Fair w a
   pub not-lower : NotLowerThanHouse w house a
   pub not-bettered : (o : ℕ) → 1 ≤ o → o ≤ length (choices (w .figures)) → BetterOver w a o → ⊥
