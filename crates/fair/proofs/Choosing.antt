@@ -1,5 +1,5 @@
 -- Laws of the brews of a choice: what they are, and adding up and counting over them.
-use mathlib.Core.Path.{_≡_, refl, sym, ap, _∙_}
+use mathlib.Core.Path.{_≡_, refl, sym, ap, subst, _∙_}
 use mathlib.Core.Bool.{Bool, true, false, _&&_}
 use mathlib.Core.List.{List, [], _∷_}
 use mathlib.Core.Logic.{_⊎_, ⊎-elim}
@@ -26,6 +26,10 @@ among-later d c cs = or-right (eqb d c) (among cs c)
 pub among-cases : (d c : ℕ) (cs : List ℕ) → among (d ∷ cs) c ≡ true → (d ≡ c) ⊎ (among cs c ≡ true)
 among-cases d c cs h = grind (arith, tells)
 
+-- what holds of the first and of each of the rest holds of each
+pub among-each : (P : ℕ → Type 0) (d : ℕ) (ds : List ℕ) → P d → ((c : ℕ) → among ds c ≡ true → P c) → (c : ℕ) → among (d ∷ ds) c ≡ true → P c
+among-each P d ds first rest c h = ⊎-elim (λ (e : d ≡ c). subst P e first) (rest c) (among-cases d c ds h)
+
 pub ascending-within : (low high : ℕ) (cs : List ℕ) → Ascending low high cs → (c : ℕ) → among cs c ≡ true → (low < c) × (c ≤ high)
 ascending-within low high [] up c m = absurd (both-ways false refl m)
 ascending-within low high (d ∷ ds) up c m =
@@ -47,6 +51,11 @@ choice-within f cs choice c m = let h = ascending-within 0 (f .brews) cs (choice
 -- the lots of a choice's brews are one for each taker
 pub choice-serves-all : (f : Figures) (cs : List ℕ) → InLimits f → IsChoice f cs → total (lotsOf f) cs ≡ f .takers
 choice-serves-all f cs limits choice = total-constant (f .lots) cs ∙ ap (λ k. f .lots * k) (choice .size) ∙ sym (limits .a-lot-each)
+
+pub total-part : (f : ℕ → ℕ) (cs : List ℕ) (c : ℕ) → among cs c ≡ true → f c ≤ total f cs
+total-part f [] c m = absurd (both-ways false refl m)
+total-part f (d ∷ ds) c m =
+    among-each (λ b. f b ≤ total f (d ∷ ds)) d ds (omega arith) (λ b t. omega (arith, total-part f ds b t)) c m
 
 module _ (f g : ℕ → ℕ) where
   pub total-mono : (cs : List ℕ) → ((c : ℕ) → among cs c ≡ true → f c ≤ g c) → total f cs ≤ total g cs

@@ -3,6 +3,7 @@ pub mod Listing
 pub mod Feasibles
 pub mod Favourites
 pub mod Comparing
+pub mod Envying
 pub mod Reached
 pub mod Rounds
 pub mod Settling

@@ -16,7 +16,7 @@ use Rattle.fair.specs.Acceptance.{deferredAcceptance, refused, NobodyRefused}
 use Rattle.fair.proofs.Favourites.{IsNext}
 use Rattle.fair.proofs.Comparing.{best-is-unique}
 use Rattle.fair.proofs.Reached.{Reached, Moves, reached-further, end-is-best}
-use Rattle.fair.proofs.Rounds.{left, left-falls, acceptance-is-best}
+use Rattle.fair.proofs.Rounds.{brewsLeft, left-falls, acceptance-is-best}
 
 module _ (w : Market) (sound : SoundMarket w) (cs : List ℕ) (choice : IsChoice (w .figures) cs) (a : List ℕ) (reached : Reached w cs a) where
   module _ (s : ℕ) (l : s < w .figures .takers) (refusal : refused w a s ≡ true) (d : ℕ) (next : IsNext w s cs (brewOf a s) d) where
@@ -37,7 +37,7 @@ module _ (w : Market) (sound : SoundMarket w) (cs : List ℕ) (choice : IsChoice
     move = reached-further w sound cs choice a reached (set a s d) moves
 
     -- so that the loop ends
-    pub move-falls : left w cs (set a s d) < left w cs a
+    pub move-falls : brewsLeft w cs (set a s d) < brewsLeft w cs a
     move-falls = left-falls w sound cs choice a (set a s d) moves s l (λ same. omega (arith, next .below, ap (w .brewPlace s) (same ∙ now)))
 
   pub end : NobodyRefused w a → a ≡ deferredAcceptance w cs

@@ -46,6 +46,9 @@ module _ (w : Market) (sound : SoundMarket w) (cs : List ℕ) (choice : IsChoice
   abbrev takers : ℕ
   takers = w .figures .takers
 
+  abbrev lots : ℕ → ℕ
+  lots = lotsOf (w .figures)
+
   known : (c : ℕ) → among cs c ≡ true → IsBrew w c
   known = choice-within (w .figures) cs choice
 
@@ -63,19 +66,25 @@ module _ (w : Market) (sound : SoundMarket w) (cs : List ℕ) (choice : IsChoice
       }
 
   -- A step leaves as many better applicants as lots: the front of a brew's applicants is not refused.
-  ahead-stays : (a b : List ℕ) → Moves w cs a b → (c s : ℕ) → lotsOf (w .figures) c ≤ ahead w a c s → lotsOf (w .figures) c ≤ ahead w b c s
+  ahead-stays : (a b : List ℕ) → Moves w cs a b → (c s : ℕ) → lots c ≤ ahead w a c s → lots c ≤ ahead w b c s
   ahead-stays a b step c s many =
-      omega (arith, front-stays (λ t. eqb (brewOf a t) c) (w .takerPlace c) takers (lotsOf (w .figures) c) (w .takerPlace c s) many, tally-mono (front (λ t. eqb (brewOf a t) c) (w .takerPlace c) takers (lotsOf (w .figures) c) (w .takerPlace c s)) (λ t. eqb (brewOf b t) c && favours w c t s) takers stays)
+      omega (arith, front-stays applies (w .takerPlace c) takers (lots c) (w .takerPlace c s) many, tally-mono ahead-kept (λ t. eqb (brewOf b t) c && favours w c t s) takers stays)
     where
-      stays : (t : ℕ) → t < takers → front (λ t. eqb (brewOf a t) c) (w .takerPlace c) takers (lotsOf (w .figures) c) (w .takerPlace c s) t ≡ true → (eqb (brewOf b t) c && favours w c t s) ≡ true
+      applies : ℕ → Bool
+      applies t = eqb (brewOf a t) c
+
+      ahead-kept : ℕ → Bool
+      ahead-kept = front applies (w .takerPlace c) takers (lots c) (w .takerPlace c s)
+
+      stays : (t : ℕ) → t < takers → ahead-kept t ≡ true → (eqb (brewOf b t) c && favours w c t s) ≡ true
       stays t l infront =
-          let parts = and-parts (eqb (brewOf a t) c && favours w c t s) (ltb (ahead w a c t) (lotsOf (w .figures) c)) infront in
+          let parts = and-parts (eqb (brewOf a t) c && favours w c t s) (ltb (ahead w a c t) (lots c)) infront in
           let here = and-parts (eqb (brewOf a t) c) (favours w c t s) (parts .0) in
           let at : brewOf a t ≡ c = eqb-true _ _ (here .0) in
           ⊎-elim
           (λ (same : brewOf a t ≡ brewOf b t). and-from _ _ (eq-eqb _ _ (sym same ∙ at)) (here .1))
           (λ (moved : (refused w a t ≡ true) × IsNext w t cs (brewOf a t) (brewOf b t)).
-          absurd (omega (arith, ltb-true _ _ (parts .1), leb-true _ _ (subst (λ d. leb (lotsOf (w .figures) d) (ahead w a d t) ≡ true) at (moved .0)))))
+          absurd (omega (arith, ltb-true _ _ (parts .1), leb-true _ _ (subst (λ d. leb (lots d) (ahead w a d t) ≡ true) at (moved .0)))))
           (step .stays-or-next t l)
 
   module _ (a : List ℕ) (reached : Reached w cs a) where
@@ -84,7 +93,7 @@ module _ (w : Market) (sound : SoundMarket w) (cs : List ℕ) (choice : IsChoice
     not-given : (b : List ℕ) → FairOver w cs b → (s : ℕ) → s < takers → refused w a s ≡ true → brewOf b s ≡ brewOf a s → ⊥
     not-given b fair s l refusal same =
         ⊎-elim (λ (e : takersWith w b (brewOf a s) ≡ 0). omega (arith, more))
-        (λ (e : takersWith w b (brewOf a s) ≡ lotsOf (w .figures) (brewOf a s)). omega (arith, more, leb-true _ _ refusal))
+        (λ (e : takersWith w b (brewOf a s) ≡ lots (brewOf a s)). omega (arith, more, leb-true _ _ refusal))
         (fair .feasible .full (brewOf a s))
       where
         has-it : (t : ℕ) → t < takers → (eqb (brewOf a t) (brewOf a s) && favours w (brewOf a s) t s) ≡ true → eqb (brewOf b t) (brewOf a s) ≡ true
@@ -111,7 +120,11 @@ module _ (w : Market) (sound : SoundMarket w) (cs : List ℕ) (choice : IsChoice
         ⊎-elim
         (λ (next : (d : ℕ) × IsNext w s cs (brewOf a s) d). next)
         (λ (last : (e : ℕ) → among cs e ≡ true → w .brewPlace s e ≤ w .brewPlace s (brewOf a s)).
-        absurd (omega (arith, choice-serves-all (w .figures) cs (sound .limits) choice, total-mono (lotsOf (w .figures)) others cs (all-lots last), count-by-brew (brewOf a) not-itself takers 0 (w .figures .brews) cs (choice .ascending), tally-mono (λ t. not-itself t && among cs (brewOf a t)) not-itself takers (λ t _ both. and-parts (not-itself t) _ both .0), tally-below not-itself takers s l (not-from-true _ (eq-eqb s s refl)))))
+        let served = choice-serves-all (w .figures) cs (sound .limits) choice in
+        let by-others = total-mono lots others cs (all-lots last) in
+        let counted = count-by-brew (brewOf a) not-itself takers 0 (w .figures .brews) cs (choice .ascending) in
+        let some-others = tally-mono (λ t. not-itself t && among cs (brewOf a t)) not-itself takers (λ t _ both. and-parts (not-itself t) _ both .0) in
+        absurd (omega (arith, tally-below not-itself takers s l (not-from-true _ (eq-eqb s s refl)))))
         (next-or-last w s cs (brewOf a s))
       where
         not-itself : ℕ → Bool
@@ -127,10 +140,10 @@ module _ (w : Market) (sound : SoundMarket w) (cs : List ℕ) (choice : IsChoice
             let differ : t ≡ s → ⊥ = λ e. both-ways _ (not-above-itself w s c) (subst (λ k. favours w c k s ≡ true) e (parts .1)) in
             and-from _ _ (not-from-false _ (ne-eqb t s differ)) (parts .0))
 
-        all-lots : ((e : ℕ) → among cs e ≡ true → w .brewPlace s e ≤ w .brewPlace s (brewOf a s)) → (c : ℕ) → among cs c ≡ true → lotsOf (w .figures) c ≤ others c
+        all-lots : ((e : ℕ) → among cs e ≡ true → w .brewPlace s e ≤ w .brewPlace s (brewOf a s)) → (c : ℕ) → among cs c ≡ true → lots c ≤ others c
         all-lots last c t =
             ⊎-elim
-            (λ (e : c ≡ brewOf a s). omega (arith, ahead-others c, subst (λ d. lotsOf (w .figures) d ≤ ahead w a d s) (sym e) (leb-true _ _ refusal)))
+            (λ (e : c ≡ brewOf a s). omega (arith, ahead-others c, subst (λ d. lots d ≤ ahead w a d s) (sym e) (leb-true _ _ refusal)))
             (λ (ne : c ≡ brewOf a s → ⊥).
             let differ : w .brewPlace s c ≡ w .brewPlace s (brewOf a s) → ⊥ = λ e. ne (same-brew s c (brewOf a s) l t (reached .chosen s l) e) in
             let above : w .brewPlace s c < w .brewPlace s (brewOf a s) = omega (arith, last c t) in
@@ -148,14 +161,14 @@ module _ (w : Market) (sound : SoundMarket w) (cs : List ℕ) (choice : IsChoice
             (step .stays-or-next s l)
 
         -- what refuses in the step, or has refused before it, had as many better applicants as lots
-        outranked : (s c : ℕ) → s < takers → among cs c ≡ true → w .brewPlace s c < w .brewPlace s (brewOf b s) → lotsOf (w .figures) c ≤ ahead w a c s
+        outranked : (s c : ℕ) → s < takers → among cs c ≡ true → w .brewPlace s c < w .brewPlace s (brewOf b s) → lots c ≤ ahead w a c s
         outranked s c l t above =
             ⊎-elim (λ (same : brewOf a s ≡ brewOf b s). reached .outranked s c l t (lt-ltb _ _ (omega (arith, above, ap (w .brewPlace s) same))))
             (λ (next : (refused w a s ≡ true) × IsNext w s cs (brewOf a s) (brewOf b s)).
             ⊎-elim
             (λ (e : w .brewPlace s c ≡ w .brewPlace s (brewOf a s)).
             let it : c ≡ brewOf a s = same-brew s c (brewOf a s) l t (reached .chosen s l) e in
-            subst (λ d. lotsOf (w .figures) d ≤ ahead w a d s) (sym it) (leb-true _ _ (next .0)))
+            subst (λ d. lots d ≤ ahead w a d s) (sym it) (leb-true _ _ (next .0)))
             (λ (either : (w .brewPlace s c < w .brewPlace s (brewOf a s)) ⊎ (w .brewPlace s (brewOf a s) < w .brewPlace s c)).
             ⊎-elim (λ (before : w .brewPlace s c < w .brewPlace s (brewOf a s)). reached .outranked s c l t (lt-ltb _ _ before))
             (λ (behind : w .brewPlace s (brewOf a s) < w .brewPlace s c). absurd (omega (arith, next .1 .none-between c t behind)))
@@ -175,21 +188,21 @@ module _ (w : Market) (sound : SoundMarket w) (cs : List ℕ) (choice : IsChoice
 
     module _ (still : NobodyRefused w a) where
       -- a brew of the choice has no more applicants than lots
-      not-crowded : (c : ℕ) → among cs c ≡ true → takersWith w a c ≤ lotsOf (w .figures) c
+      not-crowded : (c : ℕ) → among cs c ≡ true → takersWith w a c ≤ lots c
       not-crowded c t =
           ⊎-elim
-          (λ (more : lotsOf (w .figures) c < takersWith w a c).
-          let last = crowded (λ s. eqb (brewOf a s) c) (w .takerPlace c) takers (lotsOf (w .figures) c) (λ s u l m _ _ e. sound .takers-apart c s u (known c t) l m e) more in
+          (λ (more : lots c < takersWith w a c).
+          let last = crowded (λ s. eqb (brewOf a s) c) (w .takerPlace c) takers (lots c) (λ s u l m _ _ e. sound .takers-apart c s u (known c t) l m e) more in
           let at : c ≡ brewOf a (last .0) = sym (eqb-true _ _ (last .2)) in
-          absurd (both-ways _ (still (last .0) (last .1)) (subst (λ d. leb (lotsOf (w .figures) d) (ahead w a d (last .0)) ≡ true) at (le-leb _ _ (last .3)))))
-          (λ (few : takersWith w a c ≤ lotsOf (w .figures) c). few)
-          (cases-lt (lotsOf (w .figures) c) (takersWith w a c))
+          absurd (both-ways _ (still (last .0) (last .1)) (subst (λ d. leb (lots d) (ahead w a d (last .0)) ≡ true) at (le-leb _ _ (last .3)))))
+          (λ (few : takersWith w a c ≤ lots c). few)
+          (cases-lt (lots c) (takersWith w a c))
 
       -- the applicants add up to the lots, so that each brew of the choice is full
-      full : (c : ℕ) → among cs c ≡ true → takersWith w a c ≡ lotsOf (w .figures) c
+      full : (c : ℕ) → among cs c ≡ true → takersWith w a c ≡ lots c
       full =
           let all : tally (λ s. among cs (brewOf a s)) takers ≡ takers = tally-same _ (λ _. true) takers (reached .chosen) ∙ tally-always takers in
-          total-squeeze (takersWith w a) (lotsOf (w .figures)) cs not-crowded
+          total-squeeze (takersWith w a) (lots) cs not-crowded
           (count-by-brew (brewOf a) (λ _. true) takers 0 (w .figures .brews) cs (choice .ascending) ∙ all ∙ sym (choice-serves-all (w .figures) cs (sound .limits) choice))
 
       closed : (c : ℕ) → among cs c ≡ false → takersWith w a c ≡ 0

@@ -11,9 +11,9 @@ use lib.ListN.{getD, replicate}
 use Rattle.std.proofs.shelf.Counted.{length-map-counting, getD-map-counting}
 use Rattle.std.proofs.shelf.Lists.{getD-replicate}
 use Rattle.std.proofs.shelf.Tests.{cases-bool, cases-lt, lt-ltb, le-ltb, ltb-true, and-parts, and-from, and-right, cond-true, cond-false, not-true, not-from-false, both-ways, eq-eqb, ne-eqb, ltb-false}
-use Rattle.tally.specs.Tally.{tally, total}
+use Rattle.tally.specs.Tally.{tally, sumBelow, total}
 use Rattle.tally.proofs.Tallies.{tally-strict, tally-none, tally-le}
-use Rattle.tally.proofs.Sums.{sum-below, sum-strict, sum-le}
+use Rattle.tally.proofs.Sums.{sum-strict, sum-le}
 use Rattle.tally.proofs.Ranks.{greatest}
 use Rattle.fair.specs.Markets.{Market, SoundMarket, lotsOf, prefers, IsBrew}
 use Rattle.fair.specs.Choices.{among, IsChoice}
@@ -38,8 +38,8 @@ abbrev pub leftBelow : Market → List ℕ → ℕ → ℕ → ℕ
 leftBelow w cs s c = tally (λ k. among cs (suc k) && prefers w s c (suc k)) (w .figures .brews)
 
 -- the same for all takers together, each below the brew where it applies
-abbrev pub left : Market → List ℕ → List ℕ → ℕ
-left w cs a = sum-below (λ s. leftBelow w cs s (brewOf a s)) (w .figures .takers)
+abbrev pub brewsLeft : Market → List ℕ → List ℕ → ℕ
+brewsLeft w cs a = sumBelow (λ s. leftBelow w cs s (brewOf a s)) (w .figures .takers)
 
 applied : (w : Market) (left : List (List ℕ)) (s : ℕ) → s < w .figures .takers → brewOf (applications w left) s ≡ favourite w s (getD left s [])
 applied w left s l = getD-map-counting (λ t. favourite w t (getD left t [])) 0 (w .figures .takers) s s 0 l (omega arith)
@@ -49,7 +49,9 @@ after-round w left s l = getD-map-counting _ 0 (w .figures .takers) s s [] l (om
 
 round-refuses : (w : Market) (left : List (List ℕ)) → SomeRefused w left (afterRefusals w left (applications w left))
 round-refuses w left s l =
-    ⊎-elim (λ (t : refused w (applications w left) s ≡ true). inr (t, after-round w left s l ∙ cond-true _ _ _ t)) (λ (f : refused w (applications w left) s ≡ false). inl (after-round w left s l ∙ cond-false _ _ _ f)) (cases-bool (refused w (applications w left) s))
+    ⊎-elim (λ (t : refused w (applications w left) s ≡ true). inr (t, after-round w left s l ∙ cond-true _ _ _ t))
+    (λ (f : refused w (applications w left) s ≡ false). inl (after-round w left s l ∙ cond-false _ _ _ f))
+    (cases-bool (refused w (applications w left) s))
 
 module _ (w : Market) (sound : SoundMarket w) (cs : List ℕ) (choice : IsChoice (w .figures) cs) where
   -- below the next brew of a taker's order there is less
@@ -64,7 +66,7 @@ module _ (w : Market) (sound : SoundMarket w) (cs : List ℕ) (choice : IsChoice
       let parts = and-parts (among cs (suc k)) (prefers w s d (suc k)) both in
       and-from _ _ (parts .0) (lt-ltb (w .brewPlace s c) (w .brewPlace s (suc k)) (omega (arith, next .below, ltb-true _ _ (parts .1)))))
 
-  pub left-falls : (a b : List ℕ) → Moves w cs a b → (s : ℕ) → s < w .figures .takers → (brewOf a s ≡ brewOf b s → ⊥) → left w cs b < left w cs a
+  pub left-falls : (a b : List ℕ) → Moves w cs a b → (s : ℕ) → s < w .figures .takers → (brewOf a s ≡ brewOf b s → ⊥) → brewsLeft w cs b < brewsLeft w cs a
   left-falls a b step s l changed =
       sum-strict (λ t. leftBelow w cs t (brewOf b t)) (λ t. leftBelow w cs t (brewOf a t)) (w .figures .takers) s l
       (⊎-elim (λ (same : brewOf a s ≡ brewOf b s). absurd (changed same)) (λ (next : (refused w a s ≡ true) × IsNext w s cs (brewOf a s) (brewOf b s)). left-below-next s _ _ (next .1)) (step .stays-or-next s l))
@@ -174,7 +176,7 @@ module _ (w : Market) (sound : SoundMarket w) (cs : List ℕ) (choice : IsChoice
   run-standing (further run step) = standing-further _ (run-standing run) _ step
 
   -- a round with a refusal leaves less
-  round-falls : (before : List (List ℕ)) → Run w cs before → (s : ℕ) → s < w .figures .takers → refused w (applications w before) s ≡ true → left w cs (applications w (afterRefusals w before (applications w before))) < left w cs (applications w before)
+  round-falls : (before : List (List ℕ)) → Run w cs before → (s : ℕ) → s < w .figures .takers → refused w (applications w before) s ≡ true → brewsLeft w cs (applications w (afterRefusals w before (applications w before))) < brewsLeft w cs (applications w before)
   round-falls before run s l refusal =
       let standing = run-standing run in
       let after = afterRefusals w before (applications w before) in
@@ -182,7 +184,7 @@ module _ (w : Market) (sound : SoundMarket w) (cs : List ℕ) (choice : IsChoice
       left-falls _ _ (run-moves before standing after (round-refuses w before)) s l (λ same. omega (arith, moved .below, ap (w .brewPlace s) same))
 
   -- enough rounds end in one without a refusal
-  rounds-end : (k : ℕ) (before : List (List ℕ)) → Run w cs before → left w cs (applications w before) ≤ k → Run w cs (rounds w k before) × NobodyRefused w (applications w (rounds w k before))
+  rounds-end : (k : ℕ) (before : List (List ℕ)) → Run w cs before → brewsLeft w cs (applications w before) ≤ k → Run w cs (rounds w k before) × NobodyRefused w (applications w (rounds w k before))
   rounds-end zero before run few =
       (run, λ s l. ⊎-elim (λ (t : refused w (applications w before) s ≡ true). absurd (omega (arith, round-falls before run s l t))) (λ (f : refused w (applications w before) s ≡ false). f) (cases-bool (refused w (applications w before) s)))
   rounds-end (suc k) before run few =

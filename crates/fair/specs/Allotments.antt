@@ -7,7 +7,7 @@ use Prim.Native.Nat.{ℕ, _<_, _≤_}
 use lib.Dec.{eqb, ltb}
 use lib.ListN.{length, getD}
 use Rattle.std.specs.Iters.{counting}
-use Rattle.tally.specs.Tally.{tally, total}
+use Rattle.tally.specs.Tally.{tally, sumBelow, total}
 use Rattle.fair.specs.Markets.{Market, lotsOf, prefers, favours, IsBrew}
 use Rattle.fair.specs.Choices.{among}
 
@@ -46,7 +46,7 @@ Fair w a = (s t c : ℕ) → s < w .figures .takers → t < w .figures .takers �
 
 -- how many just envies there are, each a taker, a brew and a rival who has it
 abbrev pub envies : Market → List ℕ → ℕ
-envies w a = total (λ s. total (λ c. tally (λ t. justlyEnvies w a s t c) (w .figures .takers)) (counting 1 (w .figures .brews))) (counting 0 (w .figures .takers))
+envies w a = sumBelow (λ s. total (λ c. tally (λ t. justlyEnvies w a s t c) (w .figures .takers)) (counting 1 (w .figures .brews))) (w .figures .takers)
 
 -- No taker ranks its brew in a lower than its brew in b.
 abbrev pub NoneLower : Market → List ℕ → List ℕ → Type 0

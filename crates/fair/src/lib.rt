@@ -3,5 +3,6 @@
 pub mod acceptance;
 pub mod books;
 pub mod choices;
+pub mod envies;
 pub mod proposals;
 pub mod settlement;

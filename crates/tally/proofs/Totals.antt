@@ -1,5 +1,5 @@
 -- Laws of adding up over a list.
-use mathlib.Core.Path.{_≡_, ap}
+use mathlib.Core.Path.{_≡_, refl, ap}
 use mathlib.Core.List.{List, [], _∷_}
 use mathlib.Core.Logic.{_⊎_, ⊎-elim}
 use Prim.Native.Nat.{ℕ, _*_, _<_}
@@ -13,6 +13,10 @@ use Rattle.tally.specs.Tally.{total}
 pub total-constant : (k : ℕ) (xs : List ℕ) → total (λ _. k) xs ≡ k * length xs
 total-constant k [] = omega arith
 total-constant k (x ∷ xs) = omega (arith, total-constant k xs)
+
+pub total-none : (f : ℕ → ℕ) (xs : List ℕ) → ((x : ℕ) → f x ≡ 0) → total f xs ≡ 0
+total-none f [] h = refl
+total-none f (x ∷ xs) h = omega (arith, h x, total-none f xs h)
 
 -- where each is nothing or k, the total counts those that are something
 pub total-all-or-nothing : (f : ℕ → ℕ) (k : ℕ) (xs : List ℕ) → 0 < k → ((x : ℕ) → (f x ≡ 0) ⊎ (f x ≡ k)) → total f xs ≡ k * length (kept-by (λ x. ltb 0 (f x)) xs)

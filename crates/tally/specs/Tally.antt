@@ -1,4 +1,4 @@
--- Counting below a number, adding up over a list, and the place of a value in a finite sequence. All compute.
+-- Counting and adding up, below a number or over a list, and the place of a value in a finite sequence. All compute.
 use mathlib.Core.Bool.{Bool, cond}
 use mathlib.Core.List.{List, [], _∷_}
 use Prim.Native.Nat.{ℕ, zero, suc, _+_}
@@ -13,6 +13,11 @@ tally p (suc n) = cond {A = ℕ} (p n) 1 0 + tally p n
 abbrev pub position : (ℕ → ℕ) → ℕ → ℕ → ℕ
 position f x zero = 0
 position f x (suc n) = cond {A = ℕ} (eqb (f n) x) (suc n) (position f x n)
+
+-- f 0 + .. + f (n - 1)
+abbrev pub sumBelow : (ℕ → ℕ) → ℕ → ℕ
+sumBelow f zero = 0
+sumBelow f (suc n) = f n + sumBelow f n
 
 -- the sum of f over the entries of a list
 abbrev pub total : (ℕ → ℕ) → List ℕ → ℕ
