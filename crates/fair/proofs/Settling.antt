@@ -12,10 +12,10 @@ use Rattle.std.proofs.shelf.Tests.{cases-bool, cases-eq, both-ways, eq-eqb, eqb
 use Rattle.tally.proofs.Tallies.{tally-mono}
 use Rattle.fair.specs.Markets.{Market, SoundMarket, lotsOf, prefers}
 use Rattle.fair.specs.Choices.{among, IsChoice, choices, choiceAt}
-use Rattle.fair.specs.Allotments.{brewOf, takersWith, NamesBrews, Feasible, Over, Fair, NoneLower, Better, BestFair, claimants}
+use Rattle.fair.specs.Allotments.{brewOf, takersWith, NamesBrews, Feasible, Over, Fair, Better, BestFair, claimants}
 use Rattle.fair.specs.Acceptance.{deferredAcceptance}
 use Rattle.fair.specs.Settlement.{HeldNext, Held, Settlement, FairAndUnbettered}
-use Rattle.fair.specs.Proposals.{Passes}
+use Rattle.fair.specs.Proposals.{NotLowerThanHouse, Passes}
 use Rattle.fair.proofs.Comparing.{isBetter, better-from-test, test-from-better, none-lower-trans, better-above, better-below, not-better-itself, best-is-unique}
 use Rattle.fair.proofs.Listing.{choices-listed}
 use Rattle.fair.proofs.Feasibles.{feasible-from-brews, feasible-over-an-ordinal}
@@ -112,7 +112,7 @@ module _ (w : Market) (sound : SoundMarket w) where
     pub record HeldFacts (i : ℕ) (a : List ℕ) : Type 0 where
       pub feasible : Feasible w a
       pub fair : Fair w a
-      pub not-lower : (b : List ℕ) → BestFair w house b → NoneLower w a b
+      pub not-lower : NotLowerThanHouse w house a
       pub not-bettered : (j : ℕ) → j < i → (d : List ℕ) → BestFair w (choiceAt (w .figures) j) d → Better w d a → ⊥
 
     pub held-facts : (i : ℕ) (a : List ℕ) → Held w house i a → HeldFacts i a
@@ -120,6 +120,8 @@ module _ (w : Market) (sound : SoundMarket w) where
         record { feasible = best .fair-over .feasible; fair = best .fair-over .fair; not-lower = λ b other. best .best b (other .fair-over); not-bettered = λ j l. absurd (omega arith) }
     held-facts (suc i) a (h, d, held, best, next) =
         let before = held-facts i h held in
+        let this : (j : ℕ) (e : List ℕ) → j ≡ i → BestFair w (choiceAt (w .figures) j) e → e ≡ d =
+        λ j e here other. best-is-unique w sound _ e d (subst (λ k. BestFair w (choiceAt (w .figures) k) e) here other) best in
         ⊎-elim
         (λ (took : Better w d h × (a ≡ d)).
         subst (HeldFacts (suc i)) (sym (took .1))
@@ -128,7 +130,7 @@ module _ (w : Market) (sound : SoundMarket w) where
           fair = best .fair-over .fair;
           not-lower = λ b other. none-lower-trans w d h b (took .0 .none-lower) (before .not-lower b other);
           not-bettered = λ j l e other better.
-              ⊎-elim (λ (here : j ≡ i). not-better-itself w d (subst (λ x. Better w x d) (best-is-unique w sound _ e d (subst (λ k. BestFair w (choiceAt (w .figures) k) e) here other) best) better))
+              ⊎-elim (λ (here : j ≡ i). not-better-itself w d (subst (λ x. Better w x d) (this j e here other) better))
               (λ (earlier : j ≡ i → ⊥). before .not-bettered j (omega arith) e other (better-below w e d h better (took .0 .none-lower)))
               (cases-eq j i);
         }))
@@ -139,13 +141,13 @@ module _ (w : Market) (sound : SoundMarket w) where
           fair = before .fair;
           not-lower = before .not-lower;
           not-bettered = λ j l e other better.
-              ⊎-elim (λ (here : j ≡ i). kept .0 (subst (λ x. Better w x h) (best-is-unique w sound _ e d (subst (λ k. BestFair w (choiceAt (w .figures) k) e) here other) best) better))
+              ⊎-elim (λ (here : j ≡ i). kept .0 (subst (λ x. Better w x h) (this j e here other) better))
               (λ (earlier : j ≡ i → ⊥). before .not-bettered j (omega arith) e other better)
               (cases-eq j i);
         }))
         next
 
-    -- For what has been found feasible, fair and not lower, and not bettered over any choice.
+    -- What has been found feasible, fair, not lower and not bettered over any choice is not bettered at all.
     fair-and-unbettered : (a : List ℕ) → HeldFacts count a → FairAndUnbettered w house a
     fair-and-unbettered a facts =
         record {
