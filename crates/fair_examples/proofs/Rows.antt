@@ -115,6 +115,7 @@ worked = record {
   envious = judged-row threeBrews three-brews-sound (list3 1 2 3) brews-123 (list6 2 2 1 1 3 3) (Envies 5) refl;
   four-envies = refl;
   single-sound = single-sound;
+  one-in-limits = omega arith;
   single-complete = record { a-taker-each = refl; of-brews = refl; a-brew-each = refl; of-takers = refl; takers-ordered = all-ordered; brews-ordered = all-ordered };
   cards = record { list = refl; repeated = refl; above = refl; short = refl; points = refl; empty = refl };
 }

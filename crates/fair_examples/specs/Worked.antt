@@ -9,7 +9,7 @@ use Rattle.std.specs.declared.option.Option.the-variants.{Some, None}
 use Rattle.orders.specs.Books.{Meaning, Sound}
 use Rattle.cards.specs.Worked.{WorkedCards}
 use Rattle.tally.specs.Tally.{position}
-use Rattle.fair.specs.Markets.{Figures, Market, SoundMarket}
+use Rattle.fair.specs.Markets.{Figures, InLimits, Market, SoundMarket}
 use Rattle.fair.specs.Choices.{IsChoice}
 use Rattle.fair.specs.Allotments.{BestFair, claimants, envies}
 use Rattle.fair.specs.Settlement.{Settlement, Gains}
@@ -51,7 +51,10 @@ threeBrews = inOrders (record { brews = 3; opened = 3; lots = 2; takers = 6 })
     (list3 2 1 3 ∷ list3 2 1 3 ∷ list3 1 2 3 ∷ list3 1 2 3 ∷ list3 1 2 3 ∷ list3 1 2 3 ∷ [])
     (list6 1 2 5 6 3 4 ∷ list6 3 4 1 2 5 6 ∷ list6 3 4 1 2 5 6 ∷ [])
 
--- One taker, one brew, one lot: a book for either side.
+-- One taker, one brew, one lot, and a book for either side.
+abbrev pub oneOfEach : Figures
+oneOfEach = record { brews = 1; opened = 1; lots = 1; takers = 1 }
+
 abbrev pub single : Meaning
 single = record { choosers = 1; items = 1; order = λ k. cond (eqb k 1) (Some (1 ∷ [])) None }
 
@@ -87,6 +90,7 @@ pub record WorkedRounds : Type 0 where
   pub four-envies : envies threeBrews (list6 2 2 1 1 3 3) ≡ 4
   -- the books of the single taker and the single brew
   pub single-sound : Sound single
-  pub single-complete : Complete (record { brews = 1; opened = 1; lots = 1; takers = 1 }) single single
+  pub one-in-limits : InLimits oneOfEach
+  pub single-complete : Complete oneOfEach single single
   -- cards
   pub cards : WorkedCards
