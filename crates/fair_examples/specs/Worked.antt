@@ -12,6 +12,7 @@ use Rattle.tally.specs.Tally.{position}
 use Rattle.fair.specs.Markets.{Figures, InLimits, Market, SoundMarket}
 use Rattle.fair.specs.Choices.{IsChoice}
 use Rattle.fair.specs.Allotments.{BestFair, claimants, envies}
+use Rattle.fair.specs.Acceptance.{deferredAcceptance}
 use Rattle.fair.specs.Settlement.{Settlement, Gains}
 use Rattle.fair.specs.Proposals.{Passed, WrongLength, NoBrew, NotFull, Envies, Lower, Bettered, Judged}
 use Rattle.fair.specs.FromBooks.{Complete}
@@ -62,8 +63,11 @@ pub record WorkedRounds : Type 0 where
   -- the six takers
   pub six-sound : SoundMarket sixTakers
   pub house-123 : IsChoice (sixTakers .figures) (list3 1 2 3)
+  pub accepted-123 : deferredAcceptance sixTakers (list3 1 2 3) ≡ list6 1 3 2 1 3 2
   pub best-123 : BestFair sixTakers (list3 1 2 3) (list6 1 3 2 1 3 2)
+  pub accepted-124 : deferredAcceptance sixTakers (list3 1 2 4) ≡ list6 4 1 4 1 2 2
   pub best-124 : BestFair sixTakers (list3 1 2 4) (list6 4 1 4 1 2 2)
+  pub accepted-125 : deferredAcceptance sixTakers (list3 1 2 5) ≡ list6 1 1 2 5 5 2
   pub best-125 : BestFair sixTakers (list3 1 2 5) (list6 1 1 2 5 5 2)
   pub settled-123 : Settlement sixTakers (list3 1 2 3) (list6 4 1 4 1 2 2)
   pub gains-123 : Gains sixTakers (list3 1 2 3) (list6 4 1 4 1 2 2) 4
@@ -83,6 +87,7 @@ pub record WorkedRounds : Type 0 where
   pub no-claimants : claimants sixTakers (list6 4 1 4 1 2 2) 3 ≡ 0
   -- the three takers
   pub three-sound : SoundMarket threeTakers
+  pub accepted-three : deferredAcceptance threeTakers (list3 1 2 3) ≡ list3 1 3 2
   pub best-three : BestFair threeTakers (list3 1 2 3) (list3 1 3 2)
   -- the three brews
   pub brews-sound : SoundMarket threeBrews
