@@ -1,6 +1,6 @@
 -- Every run of deferred acceptance keeps what Reached says of the brews that the takers apply to; and it ends, since each
 -- refusal takes a brew from what a taker has left.
-use mathlib.Core.Path.{_≡_, refl, sym, ap, subst, _∙_}
+use mathlib.Core.Path.{_≡_, sym, ap, subst, _∙_}
 use mathlib.Core.Bool.{Bool, true, false, not, cond, _&&_}
 use mathlib.Core.List.{List, [], _∷_}
 use mathlib.Core.Logic.{inl, inr, ⊎-elim}
@@ -11,6 +11,7 @@ use lib.ListN.{getD, replicate}
 use Rattle.std.proofs.shelf.Counted.{length-map-counting, getD-map-counting}
 use Rattle.std.proofs.shelf.Lists.{getD-replicate}
 use Rattle.std.proofs.shelf.Tests.{cases-bool, cases-lt, lt-ltb, le-ltb, ltb-true, and-parts, and-from, and-right, cond-true, cond-false, not-true, not-from-false, both-ways, eq-eqb, ne-eqb, ltb-false}
+use Rattle.std.proofs.shelf.Ways.{same-from-decides}
 use Rattle.tally.specs.Tally.{tally, sumBelow, total}
 use Rattle.tally.proofs.Tallies.{tally-strict, tally-none, tally-le}
 use Rattle.tally.proofs.Sums.{sum-strict, sum-le}
@@ -24,9 +25,7 @@ use Rattle.fair.proofs.Favourites.{IsFavourite, favourite-or-none, IsNext}
 use Rattle.fair.proofs.Reached.{Reached, Moves, reached-first, reached-further, refused-has-next, end-is-best}
 
 same-tests : (x y : Bool) → (x ≡ true → y ≡ true) → (y ≡ true → x ≡ true) → x ≡ y
-same-tests true y there back = sym (there refl)
-same-tests false true there back = back refl
-same-tests false false there back = refl
+same-tests x y there back = same-from-decides {P = y ≡ true} x y (there, back) (λ h. h, λ h. h)
 
 -- where some lots are to be given, there is a brew
 some-brew : (f : ℕ → ℕ) (cs : List ℕ) → 1 ≤ total f cs → (c : ℕ) × (among cs c ≡ true)

@@ -1,18 +1,17 @@
 -- Counting those that pass a test by their rank, lower ranks being better.
-use mathlib.Core.Path.{_≡_, sym, ap, subst, _∙_}
+use mathlib.Core.Path.{_≡_, sym, ap, _∙_}
 use mathlib.Core.Bool.{Bool, true, false, _&&_}
 use mathlib.Core.Logic.{⊎-elim}
 use Prim.Native.Nat.{ℕ, zero, suc, _+_, _<_, _≤_}
 use native.Mathlib.Omega.{arith}
+use borrow.Author.Count.{below-more}
 use lib.Dec.{ltb}
-use Rattle.std.proofs.shelf.Tests.{cases-bool, cases-eq, cases-lt, both-ways, lt-ltb, le-ltb, ltb-true, and-parts, and-from, and-left, and-right}
+use Rattle.std.proofs.shelf.Tests.{cases-bool, cases-lt, both-ways, lt-ltb, le-ltb, ltb-true, and-parts, and-from, and-left, and-right}
 use Rattle.tally.specs.Tally.{tally}
 use Rattle.tally.proofs.Tallies.{one, tally-mono, tally-fails, tally-none, tally-one-more}
 
--- what holds of every number below n, and of n, holds below the next one
 one-more : (P : ℕ → Type 0) (n : ℕ) → ((k : ℕ) → k < n → P k) → P n → (k : ℕ) → k < suc n → P k
-one-more P n below here k l =
-    ⊎-elim (λ (e : k ≡ n). subst P (sym e) here) (λ (ne : k ≡ n → ⊥). below k (omega arith)) (cases-eq k n)
+one-more P n below here k l = below-more P n below here k (omega arith)
 
 module _ (p : ℕ → Bool) (rank : ℕ → ℕ) where
   -- t passes and has the highest rank of those below n that do
