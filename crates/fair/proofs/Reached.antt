@@ -33,7 +33,7 @@ pub record Moves (w : Market) (cs a b : List ℕ) : Type 0 where
   pub stays-or-next : (s : ℕ) → s < w .figures .takers → (brewOf a s ≡ brewOf b s) ⊎ ((refused w a s ≡ true) × IsNext w s cs (brewOf a s) (brewOf b s))
 
 -- somebody's brew is one of those with takers
-pub has-a-taker : (w : Market) (a : List ℕ) (s : ℕ) → s < w .figures .takers → 1 ≤ takersWith w a (brewOf a s)
+has-a-taker : (w : Market) (a : List ℕ) (s : ℕ) → s < w .figures .takers → 1 ≤ takersWith w a (brewOf a s)
 has-a-taker w a s l = tally-some (λ t. eqb (brewOf a t) (brewOf a s)) (w .figures .takers) s l (eq-eqb _ _ refl)
 
 pub over-chosen : (w : Market) (cs b : List ℕ) → Over w cs b → (s : ℕ) → s < w .figures .takers → among cs (brewOf b s) ≡ true

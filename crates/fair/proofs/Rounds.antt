@@ -16,7 +16,7 @@ use Rattle.tally.specs.Tally.{tally, sumBelow, total}
 use Rattle.tally.proofs.Tallies.{tally-strict, tally-none, tally-le}
 use Rattle.tally.proofs.Sums.{sum-strict, sum-le}
 use Rattle.tally.proofs.Ranks.{greatest}
-use Rattle.fair.specs.Markets.{Market, SoundMarket, lotsOf, prefers, IsBrew}
+use Rattle.fair.specs.Markets.{Market, SoundMarket, lotsOf, prefers}
 use Rattle.fair.specs.Choices.{among, IsChoice}
 use Rattle.fair.specs.Allotments.{brewOf, BestFair}
 use Rattle.fair.specs.Acceptance.{favourite, applications, without, afterRefusals, refused, rounds, deferredAcceptance, NobodyRefused, SomeRefused, Run, begun, further}
@@ -72,9 +72,6 @@ module _ (w : Market) (sound : SoundMarket w) (cs : List ℕ) (choice : IsChoice
       (λ t m.
       ⊎-elim (λ (same : brewOf a t ≡ brewOf b t). omega (arith, ap (leftBelow w cs t) same)) (λ (next : (refused w a t ≡ true) × IsNext w t cs (brewOf a t) (brewOf b t)). omega (arith, left-below-next t _ _ (next .1))) (step .stays-or-next t m))
 
-  known : (c : ℕ) → among cs c ≡ true → IsBrew w c
-  known = choice-within (w .figures) cs choice
-
   numbers : (c : ℕ) → among cs c ≡ true → 1 ≤ c
   numbers c t = ascending-within 0 (w .figures .brews) cs (choice .ascending) c t .0
 
@@ -122,8 +119,9 @@ module _ (w : Market) (sound : SoundMarket w) (cs : List ℕ) (choice : IsChoice
       left-below c t =
           let parts = and-parts (not (eqb c (brewOf a s))) _ (sym (left-is c) ∙ t) in
           let rest = and-parts (among cs c) _ (parts .1) in
+          let known = choice-within (w .figures) cs choice in
           let differ : w .brewPlace s c ≡ w .brewPlace s (brewOf a s) → ⊥ =
-          λ e. both-ways _ (not-true _ (parts .0)) (eq-eqb c (brewOf a s) (sound .brews-apart s c (brewOf a s) l (known c (rest .0)) (known (brewOf a s) (standing .reached .chosen s l)) e)) in
+          λ e. both-ways _ (not-true _ (parts .0)) (eq-eqb c (brewOf a s) (sound .brews-apart s c (brewOf a s) l (known c (rest .0)) (known _ (standing .reached .chosen s l)) e)) in
           omega (arith, ltb-false (w .brewPlace s c) (w .brewPlace s (brewOf a s)) (not-true _ (rest .1)))
 
       below-left : (c : ℕ) → among cs c ≡ true → w .brewPlace s (brewOf a s) < w .brewPlace s c → among (getD after s []) c ≡ true

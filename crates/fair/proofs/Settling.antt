@@ -167,8 +167,7 @@ module _ (w : Market) (sound : SoundMarket w) where
           feasible = feasible-from-brews w a (passes .names-brews) (passes .full);
           fair = passes .fair;
           not-lower = passes .not-lower;
-          not-bettered = λ j l d best better.
-              passes .not-bettered (suc j) (omega arith) (omega arith) (d, subst (λ i. BestFair w (choiceAt (w .figures) i) d) (omega arith) best, better);
+          not-bettered = λ j l d best better. passes .not-bettered j l (d, best, better);
         })
 
     pub held-passes-over : (i : ℕ) (h : List ℕ) → i < count → Held w house i h → (c : ℕ) → among (choiceAt (w .figures) i) c ≡ true → claimants w h c < lotsOf (w .figures) c → Held w house (i + 1) h

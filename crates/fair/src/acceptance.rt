@@ -20,7 +20,7 @@ pub fn deferred_acceptance_is_best_fair()
     ensures best { λ _. ⌜ ((w : Market) → SoundMarket w → (cs : List ℕ) → IsChoice (w .figures) cs → BestFair w cs (deferredAcceptance w cs)) ⌝ }
 {}
 
-/// Refusing one applicant at a time, or some, ends in the same allotment: every run that has nobody left to refuse does.
+/// Refusing one applicant at a time, or some, comes to the same allotment: every run with nobody left to refuse has.
 pub fn finished_runs_agree()
     ensures { λ _. ⌜ ((w : Market) → SoundMarket w → (cs : List ℕ) → IsChoice (w .figures) cs → (left : List (List ℕ)) → Run w cs left → NobodyRefused w (applications w left) → applications w left ≡ deferredAcceptance w cs) ⌝ }
 {}

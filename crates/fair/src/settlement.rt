@@ -10,7 +10,7 @@ ghost use Rattle.fair.specs.Markets.{lotsOf, Market, SoundMarket};
 ghost use Rattle.fair.specs.Settlement.{Settlement, FairAndUnbettered};
 
 /// From every house choice there is exactly one settlement.
-pub fn settlement_is_unique()
+pub fn one_settlement()
     ensures { λ _. ⌜ ((w : Market) → SoundMarket w → (house : List ℕ) → IsChoice (w .figures) house → (a : List ℕ) × Settlement w house a × ((b : List ℕ) → Settlement w house b → b ≡ a)) ⌝ }
 {}
 

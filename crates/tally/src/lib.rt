@@ -1,1 +1,1 @@
-//! Counting and places in a finite sequence: definitions in specs/, and what follows from them in proofs/.
+//! Counting, adding up, and places in a finite sequence: definitions in specs/, and what follows from them in proofs/.
