@@ -18,7 +18,7 @@ invariant-of-self c =
 pub returns : goal.returns
 returns c =
     let self = c.args.self.now in
-    let order = subst (IsOrder self.items) (sym c.copy-from-slice.ensures.after) c.requires.1 in
-    let new = rewritten self c.args.chooser c.copy-from-slice.new.self c.requires.0 order in
+    let order = subst (IsOrder self.items) (sym c.copy_from_slice.ensures.after) c.requires.1 in
+    let new = rewritten self c.args.chooser c.copy_from_slice.new.self c.requires.0 order in
     ap (λ orders. record { choosers = self.choosers; items = self.items; order = orders }) (fun_ext new.orders)
-    ∙ ap (entered (table_meaning self) c.args.chooser) c.copy-from-slice.ensures.after
+    ∙ ap (entered (table_meaning self) c.args.chooser) c.copy_from_slice.ensures.after
