@@ -5,15 +5,24 @@ use Rattle.orders.specs.Tables.{table_meaning}
 use Rattle.orders.specs.Written.{rewritten, row_fits}
 use Rattle.orders.proofs.table.OrderTable.keep.Goals as goal
 
-pub slice-bounds-copy-from-slice-end : goal.slice-bounds-copy-from-slice-end
-slice-bounds-copy-from-slice-end c = row_fits c.args.self.now c.args.chooser c.requires.0
+pub slice_bounds-copy_from_slice-end : goal.slice_bounds-copy_from_slice-end
+slice_bounds-copy_from_slice-end c = row_fits c.args.self.now c.args.chooser c.requires.0
 
-pub invariant-of-self : goal.invariant-of-self
-invariant-of-self c =
+pub invariant_of-self : goal.invariant_of-self
+invariant_of-self c =
     let self = c.args.self.now in
-    let order = subst (IsOrder self.items) (sym c.copy-from-slice.ensures.after) c.requires.1 in
-    let new = rewritten self c.args.chooser c.copy-from-slice.new.self c.requires.0 order in
-    (self.few_choosers, (self.few_items, (self.some_items, (self.few_places, (new.long, (new.low, (new.high, (new.apart, tt))))))))
+    let order = subst (IsOrder self.items) (sym c.copy_from_slice.ensures.after) c.requires.1 in
+    let new = rewritten self c.args.chooser c.copy_from_slice.new.self c.requires.0 order in
+    record {
+      few_choosers = self.few_choosers;
+      few_items = self.few_items;
+      some_items = self.some_items;
+      few_places = self.few_places;
+      long = new.long;
+      low = new.low;
+      high = new.high;
+      apart = new.apart;
+    }
 
 pub returns : goal.returns
 returns c =

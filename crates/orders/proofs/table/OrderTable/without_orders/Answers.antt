@@ -4,11 +4,20 @@ use Rattle.orders.specs.Books.{Meaning}
 use Rattle.orders.proofs.Blank.{zeros_low, zeros_high, zeros_apart, zeros_order}
 use Rattle.orders.proofs.table.OrderTable.without_orders.Goals as goal
 
-pub invariant-of-result : goal.invariant-of-result
-invariant-of-result c =
+pub invariant_of-result : goal.invariant_of-result
+invariant_of-result c =
     let choosers = c.args.choosers in
     let items = c.args.items in
-    (c.requires.0, (c.requires.1, (c.requires.2, (c.requires.3, (refl, (zeros_low choosers items 6912, (zeros_high choosers items 6912, (zeros_apart choosers items 6912, tt))))))))
+    record {
+      few_choosers = c.requires.0;
+      few_items = c.requires.1;
+      some_items = c.requires.2;
+      few_places = c.requires.3;
+      long = refl;
+      low = zeros_low choosers items 6912;
+      high = zeros_high choosers items 6912;
+      apart = zeros_apart choosers items 6912;
+    }
 
 pub returns : goal.returns
 returns c =
