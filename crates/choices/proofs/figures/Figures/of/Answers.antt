@@ -22,10 +22,19 @@ module _ (brews opened lots : ℕ) (kept : limits_kept brews opened lots ≡ tru
   few_lots : lots ≤ 48
   few_lots = grind (arith, nat_tests)
 
-pub invariant-of-result : goal.invariant-of-result
-invariant-of-result c =
+pub invariant_of-result : goal.invariant_of-result
+invariant_of-result c =
     let b = c.args.brews in
     let o = c.args.opened in
     let l = c.args.lots in
     let few = mul-le-mul (few_lots b o l c.requires) (few_opened b o l c.requires) in
-    (few_brews b o l c.requires, (some_opened b o l c.requires, (few_opened b o l c.requires, (enough_brews b o l c.requires, (some_lots b o l c.requires, (few_lots b o l c.requires, (refl, (omega arith, tt))))))))
+    record {
+      few_brews = few_brews b o l c.requires;
+      some_opened = some_opened b o l c.requires;
+      few_opened = few_opened b o l c.requires;
+      enough_brews = enough_brews b o l c.requires;
+      some_lots = some_lots b o l c.requires;
+      few_lots = few_lots b o l c.requires;
+      a_lot_each = refl;
+      few_takers = omega arith;
+    }
