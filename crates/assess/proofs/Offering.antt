@@ -22,7 +22,7 @@ none_offered before line begun =
       first = cond_both _ _ _ (λ v. v ≡ 0) (λ _. begun.first) (λ _. refl);
     }
 
-module _ (before records : List Envy) (s t : Line) (xs ys : List Envy) (x : Envy) (was : Offered before records s xs) where
+module _ (before records : List Envy) (s t : Line) (xs ys : List Envy) (x : Envy) (stays : start t ys ≡ start s xs) (was : Offered before records s xs) where
   abbrev n : ℕ
   n = length before
 
@@ -49,7 +49,7 @@ module _ (before records : List Envy) (s t : Line) (xs ys : List Envy) (x : Envy
         stand =
             put.slots ∙ ap (λ k. set xs k x) place ∙ ap (λ zs. set zs (length records) x) stood ∙ set_at records _ _ x (length records) refl
             ∙ sym stands ∙ ap (λ k. k ++ drop (length k) before) (sym more);
-        first = put.stays ∙ was.first;
+        first = stays ∙ was.first;
       }
 
   put_refused : (fault : LineFault) → PutRefused s xs t ys fault → Offered before (records ++ x ∷ []) t ys
@@ -59,13 +59,13 @@ module _ (before records : List Envy) (s t : Line) (xs ys : List Envy) (x : Envy
       record {
         holds = ap (λ l. held l ys) put.line ∙ ap (held s) put.slots ∙ was.holds ∙ sym same;
         stand = put.slots ∙ was.stand ∙ ap (λ k. k ++ drop (length k) before) (sym same);
-        first = ap (λ l. start l ys) put.line ∙ ap (start s) put.slots ∙ was.first;
+        first = stays ∙ was.first;
       }
 
 -- A record is put, or refused for want of room: in either case it was offered.
-pub offered : (s t : Line) (xs ys : List Envy) (x : Envy) (r : Result (Unit {0}) LineFault) → Put s xs x t ys r → OffersMore (x ∷ []) s xs t ys
-offered s t xs ys x (Ok done) put before records was = put_done before records s t xs ys x was put
-offered s t xs ys x (Err fault) put before records was = put_refused before records s t xs ys x was fault put
+pub offered : (s t : Line) (xs ys : List Envy) (x : Envy) (r : Result (Unit {0}) LineFault) → Put s xs x t ys r → start t ys ≡ start s xs → OffersMore (x ∷ []) s xs t ys
+offered s t xs ys x (Ok done) put stays before records was = put_done before records s t xs ys x stays was put
+offered s t xs ys x (Err fault) put stays before records was = put_refused before records s t xs ys x stays was fault put
 
 -- nothing is offered
 pub offers_none : (s : Line) (xs : List Envy) → OffersMore [] s xs s xs

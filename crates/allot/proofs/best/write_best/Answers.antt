@@ -10,6 +10,6 @@ returns g c =
     let f = figures_of c.args.choice.now.figures in
     let cs = brews_of c.args.choice.now in
     let m = c.of-market.result in
-    c.best-fair.ensures
+    c.best_fair.ensures
     ∙ ap (λ t. deferred_acceptance (market_of f (g.T.OrderBook.meaning t) (g.B.OrderBook.meaning m.brews.now)) cs) c.of-market.ensures.of_takers
     ∙ ap (λ b. deferred_acceptance (market_of f (g.T.OrderBook.meaning c.args.takers.now) (g.B.OrderBook.meaning b)) cs) c.of-market.ensures.of_brews

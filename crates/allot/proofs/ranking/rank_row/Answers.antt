@@ -4,19 +4,19 @@ use Rattle.acceptance.specs.Rankings.{place_of, spot, RankedTo}
 use Rattle.acceptance.proofs.Ranking.{place_low, spot_below, ranked_more, ranked_row}
 use Rattle.allot.proofs.ranking.rank_row.Goals as goal
 
-pub overflow-sub-table : goal.overflow-sub-table
-overflow-sub-table g c =
+pub overflow_sub-table : goal.overflow_sub-table
+overflow_sub-table g c =
     let book = g.B.OrderBook.meaning c.args.book.now in
     let sound : Sound book = g.met.B.OrderBook.sound c.args.book.now in
-    omega (arith, c.place-in-place.ensures, place_low book sound c.requires.ordered c.args.chooser c.requires.before.0 c.loop-item.item (omega arith))
+    omega (arith, c.place_in-place.ensures, place_low book sound c.requires.ordered c.args.chooser c.requires.before.0 c.loop-item.item (omega arith))
 
-pub offset-bounds-table-start : goal.offset-bounds-table-start
-offset-bounds-table-start g c =
+pub offset_bounds-table-start : goal.offset_bounds-table-start
+offset_bounds-table-start g c =
     let book = g.B.OrderBook.meaning c.args.book.now in
     let sound : Sound book = g.met.B.OrderBook.sound c.args.book.now in
     let here = spot_below book sound c.requires.ordered c.args.chooser c.requires.before.0 c.loop-item.item (omega arith) in
     let wide : c.args.chooser * c.items-items.result ≡ c.args.chooser * book.items = ap (λ n. c.args.chooser * n) c.items-items.ensures in
-    omega (arith, c.place-in-place.ensures, sound.few_places)
+    omega (arith, c.place_in-place.ensures, sound.few_places)
 
 pub bounds-table-start : goal.bounds-table-start
 bounds-table-start g c =
@@ -24,7 +24,7 @@ bounds-table-start g c =
     let sound : Sound book = g.met.B.OrderBook.sound c.args.book.now in
     let here = spot_below book sound c.requires.ordered c.args.chooser c.requires.before.0 c.loop-item.item (omega arith) in
     let wide : c.args.chooser * c.items-items.result ≡ c.args.chooser * book.items = ap (λ n. c.args.chooser * n) c.items-items.ensures in
-    omega (arith, c.place-in-place.ensures, c.loop-item.invariant.long)
+    omega (arith, c.place_in-place.ensures, c.loop-item.invariant.long)
 
 pub loop-item-preserved : goal.loop-item-preserved
 loop-item-preserved g c =
@@ -32,8 +32,8 @@ loop-item-preserved g c =
     let sound : Sound book = g.met.B.OrderBook.sound c.args.book.now in
     let k = c.args.chooser in
     let x = c.loop-item.item in
-    let is : k * c.items-items.result + (c.place-in-place.result - 1) ≡ spot book k x =
-    ap (λ n. k * n + (c.place-in-place.result - 1)) c.items-items.ensures ∙ ap (λ p. k * book.items + (p - 1)) c.place-in-place.ensures in
+    let is : k * c.items-items.result + (c.place_in-place.result - 1) ≡ spot book k x =
+    ap (λ n. k * n + (c.place_in-place.result - 1)) c.items-items.ensures ∙ ap (λ p. k * book.items + (p - 1)) c.place_in-place.ensures in
     subst (λ at. RankedTo book k (x + 1) (set c.loop-item.table at (x + 1))) (sym is)
     (ranked_more book sound c.requires.ordered k x c.loop-item.table c.requires.before.0 (omega arith) c.loop-item.invariant)
 

@@ -3,12 +3,12 @@ use Rattle.assess.proofs.Rivals.{first_envious}
 use Rattle.assess.proofs.envy.first_envious.Goals as goal
 
 pub loop-rival-preserved : goal.loop-rival-preserved
-loop-rival-preserved g c = (c.loop-rival.invariant.0, below_more _ _ c.loop-rival.invariant.1 (sym c.if-envies-rival.ensures))
+loop-rival-preserved g c = (c.loop-rival.invariant.0, below_more _ _ c.loop-rival.invariant.1 (sym c.if-envies_rival.ensures))
 
 pub takers-preserved : goal.takers-preserved
 takers-preserved g c = (c.loop-rival.invariant.0, below_more _ _ c.takers.invariant.1 (λ t l. c.loop-rival.invariant.1 t (omega arith)))
 
-pub returns-then-envies-rival : goal.returns-then-envies-rival
-returns-then-envies-rival g c =
+pub returns-then-envies_rival : goal.returns-then-envies_rival
+returns-then-envies_rival g c =
     first_envious (g.T.OrderBook.meaning c.args.takers.now) (g.B.OrderBook.meaning c.args.brews.now) c.args.allotment.now c.args.n
-    c.takers.taker c.loop-rival.rival c.number.result c.number.ensures (omega arith) (omega arith) (sym c.if-envies-rival.ensures) c.takers.invariant.1
+    c.takers.taker c.loop-rival.rival c.number.result c.number.ensures (omega arith) (omega arith) (sym c.if-envies_rival.ensures) c.takers.invariant.1

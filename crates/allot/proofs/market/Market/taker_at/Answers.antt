@@ -11,8 +11,8 @@ item-requires g c =
     brew_row g.T.OrderBook.meaning g.B.OrderBook.meaning m c.args.choice.now c.requires.0 (g.met.T.OrderBook.sound m.takers.now) (g.met.B.OrderBook.sound m.brews.now)
     (c.args.brew - 1) c.args.place (omega (arith, leb-true 1 c.args.brew brew.0, leb-true c.args.brew c.args.choice.now.figures.brews brew.1)) c.requires.2
 
-pub overflow-sub-result : goal.overflow-sub-result
-overflow-sub-result g c =
+pub overflow_sub-result : goal.overflow_sub-result
+overflow_sub-result g c =
     let m = c.args.self.now in
     let found = taker_found g.T.OrderBook.meaning g.B.OrderBook.meaning m c.args.choice.now c.requires.0 (g.met.T.OrderBook.sound m.takers.now) (g.met.B.OrderBook.sound m.brews.now)
     c.args.brew c.args.place c.requires.1 c.requires.2 in

@@ -9,11 +9,11 @@ use Rattle.allot.specs.Runs.{Fresh, in_line}
 use Rattle.allot.proofs.Moving.{taker_fits, first_is, first_brew_fits, fresh_more, begun}
 use Rattle.allot.proofs.run.Run.begin.Goals as goal
 
-pub overflow-cast-stands : goal.overflow-cast-stands
-overflow-cast-stands g c =
+pub overflow_cast-stands : goal.overflow_cast-stands
+overflow_cast-stands g c =
     let m = c.args.market.now in
     let l : c.loop-taker.taker < c.args.choice.now.figures.takers = omega (arith, c.takers-taker-end.ensures, ap (λ f. f.takers) c.figures.ensures) in
-    omega (arith, first_brew_fits g.T.OrderBook.meaning g.B.OrderBook.meaning m c.args.choice.now c.requires.ready (g.met.T.OrderBook.sound m.takers.now) (g.met.B.OrderBook.sound m.brews.now) c.loop-taker.taker l c.next-brew.result c.next-brew.ensures)
+    omega (arith, first_brew_fits g.T.OrderBook.meaning g.B.OrderBook.meaning m c.args.choice.now c.requires.ready (g.met.T.OrderBook.sound m.takers.now) (g.met.B.OrderBook.sound m.brews.now) c.loop-taker.taker l c.next_brew.result c.next_brew.ensures)
 
 pub wait-requires : goal.wait-requires
 wait-requires g c =
@@ -27,13 +27,13 @@ loop-taker-preserved g c =
     let m = c.args.market.now in
     let w = market_in g.T.OrderBook.meaning g.B.OrderBook.meaning m c.args.choice.now.figures in
     let n = c.loop-taker.taker in
-    let d = c.next-brew.result in
+    let d = c.next_brew.result in
     let l : n < c.args.choice.now.figures.takers = omega (arith, c.takers-taker-end.ensures, ap (λ f. f.takers) c.figures.ensures) in
     let fits : n < length c.loop-taker.stands = omega (arith, c.loop-taker.auto.stands, c.requires.sizes) in (
       fresh_more n c.loop-taker.run c.wait.new.self c.loop-taker.invariant.0 c.wait.ensures,
       below_more (λ (s : ℕ). IsFavourite w s (brews_of c.args.choice.now) (brew_of (set c.loop-taker.stands n d) s)) n
           (λ s h. subst (IsFavourite w s (brews_of c.args.choice.now)) (sym (get_or-set_other c.loop-taker.stands n s d 0 (λ e. omega arith))) (c.loop-taker.invariant.1 s h))
-          (subst (IsFavourite w n (brews_of c.args.choice.now)) (sym (get_or-set_same c.loop-taker.stands n d 0 fits)) (first_is g.T.OrderBook.meaning g.B.OrderBook.meaning m c.args.choice.now c.requires.ready (g.met.T.OrderBook.sound m.takers.now) (g.met.B.OrderBook.sound m.brews.now) n l d c.next-brew.ensures)),
+          (subst (IsFavourite w n (brews_of c.args.choice.now)) (sym (get_or-set_same c.loop-taker.stands n d 0 fits)) (first_is g.T.OrderBook.meaning g.B.OrderBook.meaning m c.args.choice.now c.requires.ready (g.met.T.OrderBook.sound m.takers.now) (g.met.B.OrderBook.sound m.brews.now) n l d c.next_brew.ensures)),
     )
 
 pub returns : goal.returns

@@ -9,8 +9,8 @@ bounds-self-brew g c =
     (its_brew_fits g.T.OrderBook.meaning g.B.OrderBook.meaning m c.args.choice.now c.requires.ready (g.met.T.OrderBook.sound m.takers.now) (g.met.B.OrderBook.sound m.brews.now)
     c.args.stands.now c.args.self.now c.args.taker (in_line c.args.self.now) c.requires.before).1
 
-pub taker-at-refused-requires : goal.taker-at-refused-requires
-taker-at-refused-requires g c =
+pub taker_at-refused-requires : goal.taker_at-refused-requires
+taker_at-refused-requires g c =
     let m = c.args.market.now in
     let brew = stands_at_a_brew g.T.OrderBook.meaning g.B.OrderBook.meaning m c.args.choice.now c.requires.ready (g.met.T.OrderBook.sound m.takers.now) (g.met.B.OrderBook.sound m.brews.now)
     c.args.stands.now c.args.self.now c.args.taker (in_line c.args.self.now) c.requires.before in
@@ -24,8 +24,8 @@ bounds-self-taker g c =
     first_fits g.T.OrderBook.meaning g.B.OrderBook.meaning m c.args.choice.now c.requires.ready (g.met.T.OrderBook.sound m.takers.now) (g.met.B.OrderBook.sound m.brews.now)
     c.args.stands.now c.args.self.now c.args.taker (in_line c.args.self.now) c.requires.before
 
-pub last-held-requires : goal.last-held-requires
-last-held-requires g c =
+pub last_held-requires : goal.last_held-requires
+last_held-requires g c =
     let m = c.args.market.now in
     let brew = stands_at_a_brew g.T.OrderBook.meaning g.B.OrderBook.meaning m c.args.choice.now c.requires.ready (g.met.T.OrderBook.sound m.takers.now) (g.met.B.OrderBook.sound m.brews.now)
     c.args.stands.now c.args.self.now c.args.taker (in_line c.args.self.now) c.requires.before in
@@ -36,9 +36,9 @@ last-held-requires g c =
 pub returns : goal.returns
 returns g c =
     let m = c.args.market.now in
-    let r = c.taker-at-refused.result in
+    let r = c.taker_at-refused.result in
     let state = exchange_state g.T.OrderBook.meaning g.B.OrderBook.meaning m c.args.choice.now c.requires.ready (g.met.T.OrderBook.sound m.takers.now) (g.met.B.OrderBook.sound m.brews.now)
-    c.args.stands.now c.args.self.now c.args.taker (in_line c.args.self.now) c.requires.before c.requires.full r c.taker-at-refused.ensures c.last-held.result c.last-held.ensures in
+    c.args.stands.now c.args.self.now c.args.taker (in_line c.args.self.now) c.requires.before c.requires.full r c.taker_at-refused.ensures c.last_held.result c.last_held.ensures in
     let refusal = exchange_refused g.T.OrderBook.meaning g.B.OrderBook.meaning m c.args.choice.now c.requires.ready (g.met.T.OrderBook.sound m.takers.now) (g.met.B.OrderBook.sound m.brews.now)
-    c.args.stands.now c.args.self.now c.args.taker (in_line c.args.self.now) c.requires.before c.requires.full r c.taker-at-refused.ensures c.last-held.result c.last-held.ensures in
+    c.args.stands.now c.args.self.now c.args.taker (in_line c.args.self.now) c.requires.before c.requires.full r c.taker_at-refused.ensures c.last_held.result c.last_held.ensures in
     record { refused = record { state = state; refusal = refusal }; line = refl }

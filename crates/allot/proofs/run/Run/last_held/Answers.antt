@@ -10,15 +10,15 @@ loop-place-preserved g c =
     let m = c.args.market.now in
     let w = market_in g.T.OrderBook.meaning g.B.OrderBook.meaning m c.args.choice.now.figures in
     let sound = sound_market g.T.OrderBook.meaning g.B.OrderBook.meaning m c.args.choice.now c.requires.ready (g.met.T.OrderBook.sound m.takers.now) (g.met.B.OrderBook.sound m.brews.now) in
-    let here = c.taker-at-taker.ensures in
-    let unheld : holds c.args.stands.now c.args.self.now.waiting c.args.brew c.taker-at-taker.result ≡ false = sym c.if-holds.ensures in (
+    let here = c.taker_at-taker.ensures in
+    let unheld : holds c.args.stands.now c.args.self.now.waiting c.args.brew c.taker_at-taker.result ≡ false = sym c.if-holds.ensures in (
       omega arith,
       λ t l h near.
           ⊎_elim
-          (λ (e : t ≡ c.taker-at-taker.result). absurd (both_ways _ unheld (subst (λ k. holds c.args.stands.now c.args.self.now.waiting c.args.brew k ≡ true) e h)))
-          (λ (ne : t ≡ c.taker-at-taker.result → ⊥).
+          (λ (e : t ≡ c.taker_at-taker.result). absurd (both_ways _ unheld (subst (λ k. holds c.args.stands.now c.args.self.now.waiting c.args.brew k ≡ true) e h)))
+          (λ (ne : t ≡ c.taker_at-taker.result → ⊥).
           let before = c.loop-place.invariant.1 t l h near in
-          let differ : w.taker_place c.args.brew t ≡ w.taker_place c.args.brew c.taker-at-taker.result → ⊥ = λ e. ne (sound.takers_apart c.args.brew t c.taker-at-taker.result c.requires.sizes.1 l here.taker e) in
+          let differ : w.taker_place c.args.brew t ≡ w.taker_place c.args.brew c.taker_at-taker.result → ⊥ = λ e. ne (sound.takers_apart c.args.brew t c.taker_at-taker.result c.requires.sizes.1 l here.taker e) in
           omega (arith, here.there))
-          (cases_eq t c.taker-at-taker.result),
+          (cases_eq t c.taker_at-taker.result),
     )
