@@ -8,7 +8,7 @@ pub loop-number-preserved : goal.loop-number-preserved
 loop-number-preserved c =
     let xs = c.args.numbers.now in
     let i = c.loop-number.number-index in
-    c.in-ok-push-number.ensures ∙ spaced_more c.args.words.now _ (take i xs) (get_or xs i 0) c.loop-number.invariant
+    c.in_ok-push_number.ensures ∙ spaced_more c.args.words.now _ (take i xs) (get_or xs i 0) c.loop-number.invariant
     ∙ ap (λ ys. c.args.words.now ++ spaced ys) (sym (take_more xs i 0 (omega arith)))
 
 pub returns : goal.returns
