@@ -1,11 +1,11 @@
 -- The next brew of a choice in a taker's order, found by going through its row of the table.
-use Rattle.std.proofs.Common.{◌≡◌, ℕ, zero, suc, ◌+◌, ◌-◌, ◌*◌, ◌<◌, ◌≤◌, true, false, List, length, get_or, sym, refl, ap, ◌∙◌, subst, ⊎_elim, arith}
+use Rattle.std.proofs.Common.{◌≡◌, ℕ, zero, suc, ◌+◌, ◌-◌, ◌*◌, ◌<◌, ◌≤◌, true, List, get_or, sym, subst, ⊎_elim, arith}
 use Rattle.std.proofs.lemmas.Bool.{cases_lt, both_ways, and_parts, leb-true}
 use Rattle.orders.specs.Books.{Meaning, Sound, within}
-use Rattle.fair.specs.Markets.{Figures, Market, InLimits, SoundMarket}
+use Rattle.fair.specs.Markets.{Figures, Market}
 use Rattle.fair.specs.Choices.{among, IsChoice}
-use Rattle.fair.specs.FromBooks.{market_of, AllOrdered, Complete}
-use Rattle.fair.proofs.Choosing.{choice_within, among_first}
+use Rattle.fair.specs.FromBooks.{market_of, Complete}
+use Rattle.fair.proofs.Choosing.{choice_within}
 use Rattle.fair.proofs.Favourites.{IsFavourite, IsNext}
 use Rattle.acceptance.specs.Rankings.{place_of, Ranks, PassedOver, NextAfter}
 use Rattle.acceptance.proofs.Ranking.{place_low, place_high, place_apart}

@@ -1,6 +1,6 @@
 -- The steps of a run: a brew with a lot left holds the first in line; a full one refuses it, or exchanges the last it
 -- holds for it; whoever is refused moves to its next brew and goes back into the line.
-use Rattle.std.proofs.Common.{◌≡◌, ℕ, zero, suc, ◌+◌, ◌<◌, ◌≤◌, Bool, true, false, not, ◌&&◌, eqb, ltb, leb, ◌⊎◌, List, [], ◌∷◌, ◌++◌, length, get_or, set, sym, refl, ap, ◌∙◌, subst, inl, inr, ⊎_elim, arith}
+use Rattle.std.proofs.Common.{◌≡◌, ℕ, ◌+◌, ◌<◌, ◌≤◌, Bool, true, false, not, ◌&&◌, eqb, ◌⊎◌, List, [], ◌∷◌, ◌++◌, length, get_or, set, sym, refl, ap, ◌∙◌, subst, inl, inr, ⊎_elim, arith}
 use Rattle.std.specs.List.{range_with_len}
 use Rattle.std.proofs.lemmas.List.{length-set, length_push, get_or-set_same, get_or-set_other}
 use Rattle.std.proofs.lemmas.Bool.{cases_eq, both_ways, eq-eqb, ne_eqb, eqb-true, lt-ltb, le-leb, leb-true, lt-leb, and_parts, and_from, and_left, and_right, not_from_true, not_from_false, not-true}
@@ -12,9 +12,9 @@ use Rattle.fair.specs.Allotments.{brew_of}
 use Rattle.fair.specs.Acceptance.{deferred_acceptance, ahead, refused, NobodyRefused}
 use Rattle.fair.proofs.Choosing.{choice_within}
 use Rattle.fair.proofs.Favourites.{IsFavourite, IsNext}
-use Rattle.fair.proofs.Reached.{Reached, reached_first}
+use Rattle.fair.proofs.Reached.{reached_first}
 use Rattle.fair.proofs.Loop.{move, move_falls, end}
-use Rattle.acceptance.specs.Running.{waits_at, holds, Holds, Distinct, Waits, Running, work}
+use Rattle.acceptance.specs.Running.{waits_at, holds, Holds, Running, work}
 use Rattle.acceptance.proofs.Lines.{now_set, first_taker, first_marked, leaves, turns, enters, all_wait}
 
 -- what is asked of a brew, where the same takers are held

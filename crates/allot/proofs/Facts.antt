@@ -3,7 +3,7 @@ use Rattle.std.proofs.Common.{◌≡◌, ℕ, ◌+◌, ◌-◌, ◌*◌, ◌<◌
 use Rattle.std.proofs.lemmas.Bool.{and_parts, leb-true}
 use Rattle.orders.specs.Books.{Meaning, Sound, within}
 use Rattle.orders.specs.Written.{row_end}
-use Rattle.fair.specs.Markets.{Figures, InLimits, SoundMarket}
+use Rattle.fair.specs.Markets.{InLimits, SoundMarket}
 use Rattle.fair.specs.Choices.{among, IsChoice}
 use Rattle.fair.proofs.FromBooks.{market_from_books}
 use Rattle.choices.specs.Rounds.{figures_of}

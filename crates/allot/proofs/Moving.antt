@@ -1,13 +1,13 @@
 -- The steps of a run, as the code takes them.
-use Rattle.std.proofs.Common.{◌≡◌, ℕ, ◌+◌, ◌-◌, ◌<◌, ◌≤◌, max, Bool, true, false, leb, ◌⊎◌, List, [], ◌∷◌, ◌++◌, length, get_or, set, replicate, sym, refl, ap, ◌∙◌, subst, inl, inr, ⊎_elim, arith}
+use Rattle.std.proofs.Common.{◌≡◌, ℕ, ◌+◌, ◌-◌, ◌<◌, ◌≤◌, max, Bool, true, false, leb, ◌⊎◌, List, [], ◌∷◌, ◌++◌, length, get_or, set, replicate, sym, ap, ◌∙◌, subst, inl, inr, ⊎_elim, arith}
 use native.Mathlib.Nat.{le-max_left, le-max_right, max-eq_left, max-eq_right}
 use Rattle.std.specs.List.{range_with_len}
-use Rattle.std.proofs.lemmas.List.FromFn.{length-range_with_len, map-range_with_len_more}
+use Rattle.std.proofs.lemmas.List.FromFn.{map-range_with_len_more}
 use Rattle.std.proofs.lemmas.List.{map-id, length-replicate, get_or-replicate}
 use Rattle.std.proofs.lemmas.Bool.{cases_lt, and_parts, leb-true}
-use Rattle.orders.specs.Books.{Meaning, Sound, within}
-use Rattle.fair.specs.Markets.{Market, SoundMarket, lots_of, IsBrew}
-use Rattle.fair.specs.Choices.{among, IsChoice}
+use Rattle.orders.specs.Books.{Meaning, Sound}
+use Rattle.fair.specs.Markets.{Market, SoundMarket, IsBrew}
+use Rattle.fair.specs.Choices.{among}
 use Rattle.fair.specs.Allotments.{brew_of}
 use Rattle.fair.specs.Acceptance.{deferred_acceptance, refused}
 use Rattle.fair.proofs.Choosing.{among_first, choice_within}

@@ -1,4 +1,5 @@
 //! Questions asked of two order books and a list of the takers' brews.
+#![tactic(auto)]
 
 pub mod compare;
 pub mod envy;

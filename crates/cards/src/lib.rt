@@ -1,4 +1,5 @@
 //! The kinds of card: each is only a reading, over the one table that keeps orders.
+#![tactic(auto)]
 
 mod entry;
 pub mod examples;

@@ -1,4 +1,5 @@
 //! The figures of a round, and its choices of brews to open.
+#![tactic(auto)]
 
 mod bits;
 pub mod choice;

@@ -1,4 +1,5 @@
 //! Fair allotment: its definitions are in specs/, and each theorem is the contract of a function here.
+#![tactic(auto)]
 
 pub mod acceptance;
 pub mod books;

@@ -1,4 +1,5 @@
 //! Rounds worked by hand: what the definitions of fair allotment make of them.
+#![tactic(auto)]
 
 ghost use Rattle.std.specs.Prelude.{◌≡◌, [], ◌∷◌};
 ghost use Rattle.fair.specs.Choices.{choices};

@@ -1,5 +1,6 @@
 //! A waiting line, first in, first out: a ring buffer over a slice that is
 //! handed to its functions.
+#![tactic(auto)]
 
 pub mod fault;
 pub mod ring;

@@ -1,4 +1,5 @@
 //! Tests of the waiting line, at numbers and at records.
+#![tactic(auto)]
 
 #[cfg(test)]
 mod tests {

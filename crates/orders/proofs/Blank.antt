@@ -1,5 +1,5 @@
 -- A table of zeros: no row of it is an order.
-use Rattle.std.proofs.Common.{◌≡◌, ℕ, zero, suc, ◌-◌, ◌*◌, ◌<◌, false, ltb, List, get_or, take, drop, replicate, Some, None, refl, arith}
+use Rattle.std.proofs.Common.{◌≡◌, ℕ, zero, suc, ◌-◌, ◌*◌, ◌<◌, false, ltb, List, get_or, replicate, None, refl, arith}
 use Rattle.std.proofs.lemmas.Bool.{and_right, le-ltb, cond-false}
 use Rattle.orders.specs.Books.{within}
 use Rattle.orders.specs.Rows.{Low, High, Apart, order_at}

@@ -1,4 +1,5 @@
 //! Order books: what a book means, the one interface to it, and the one table that keeps orders.
+#![tactic(auto)]
 
 pub mod book;
 pub mod card_book;

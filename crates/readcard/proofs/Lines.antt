@@ -1,5 +1,5 @@
 -- The lines of one item more.
-use Rattle.std.proofs.Common.{◌≡◌, ℕ, ◌+◌, List, [], ◌∷◌, ◌++◌, Some, None, Option, sym, refl, ap, ◌∙◌, append-nil, add-one}
+use Rattle.std.proofs.Common.{◌≡◌, ℕ, ◌+◌, List, [], ◌∷◌, ◌++◌, Some, None, sym, ap, ◌∙◌, append-nil, add-one}
 use Rattle.orders.specs.Books.{Meaning, place_in}
 use Rattle.readcard.specs.Asked.{lines_in, place_line}
 use Rattle.readcard.specs.declared.line.Line.{Line}

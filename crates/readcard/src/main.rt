@@ -1,5 +1,6 @@
 //! readcard KIND ITEMS: reads the card on standard input into an order book, and prints the place
 //! of each item, or the number and place of the refusal.
+#![tactic(auto)]
 
 use anyhow::anyhow;
 use std::env;

@@ -3,9 +3,8 @@ use Rattle.std.proofs.Common.{◌≡◌, ℕ, ◌+◌, Bool, true, false, cond, 
 use Rattle.std.specs.List.{range_with_len}
 use Rattle.std.proofs.lemmas.List.FromFn.{filter_of_map_range_with_len_more}
 use Rattle.std.proofs.lemmas.List.{flat_map_more, map-id}
-use Rattle.fair.specs.Choices.{among, Ascending}
+use Rattle.fair.specs.Choices.{among}
 use Rattle.fair.proofs.Choosing.{among_all, among_kept, ascending_all, ascending_kept}
-use Rattle.choices.specs.Bits.{brews_in}
 use Rattle.choices.specs.Chosen.{brews_of}
 use Rattle.choices.specs.declared.choice.Choice.{Choice}
 use Rattle.choices.proofs.Lists.{ascending_same}

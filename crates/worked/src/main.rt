@@ -1,5 +1,6 @@
 //! worked: enters the cards of three small rounds into order books, prints for each choice the best fair allotment, and for
 //! an allotment written by hand its just envies and the lowest taker with one.
+#![tactic(auto)]
 
 use crate::filling::fill;
 use crate::lines::choice_line;

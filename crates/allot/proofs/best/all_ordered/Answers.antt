@@ -1,6 +1,6 @@
-use Rattle.std.proofs.Common.{◌≡◌, ℕ, true, false, Some, None, refl, arith}
+use Rattle.std.proofs.Common.{◌≡◌, ℕ, false, refl, arith}
 use Rattle.std.proofs.lemmas.Bool.{both_ways, and_from, le-leb}
-use Rattle.orders.specs.Books.{Meaning, within}
+use Rattle.orders.specs.Books.{Meaning}
 use Rattle.fair.specs.Proposals.{Lowest}
 use Rattle.fair.specs.FromBooks.{AllOrdered}
 use Rattle.assess.specs.Missing.{Orderless}

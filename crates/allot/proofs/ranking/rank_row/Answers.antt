@@ -1,6 +1,6 @@
-use Rattle.std.proofs.Common.{◌≡◌, ℕ, ◌+◌, ◌-◌, ◌*◌, ◌<◌, ◌≤◌, set, sym, ap, ◌∙◌, subst, arith}
+use Rattle.std.proofs.Common.{◌≡◌, ◌+◌, ◌-◌, ◌*◌, set, sym, ap, ◌∙◌, subst, arith}
 use Rattle.orders.specs.Books.{Sound}
-use Rattle.acceptance.specs.Rankings.{place_of, spot, RankedTo}
+use Rattle.acceptance.specs.Rankings.{spot, RankedTo}
 use Rattle.acceptance.proofs.Ranking.{place_low, spot_below, ranked_more, ranked_row}
 use Rattle.allot.proofs.ranking.rank_row.Goals as goal
 

@@ -1,11 +1,11 @@
-use Rattle.std.proofs.Common.{◌≡◌, ℕ, ◌+◌, ◌<◌, length, set, sym, ap, ◌∙◌, subst, ⊎_elim, arith, below_more}
+use Rattle.std.proofs.Common.{◌≡◌, ℕ, ◌<◌, length, set, sym, ap, ◌∙◌, subst, arith, below_more}
 use Rattle.std.proofs.lemmas.List.FromFn.{length-range_with_len}
 use Rattle.std.proofs.lemmas.List.{get_or-set_same, get_or-set_other}
 use Rattle.fair.specs.Allotments.{brew_of}
 use Rattle.fair.proofs.Favourites.{IsFavourite}
 use Rattle.choices.specs.Chosen.{brews_of}
 use Rattle.allot.specs.Prepared.{market_in}
-use Rattle.allot.specs.Runs.{Fresh, in_line}
+use Rattle.allot.specs.Runs.{Fresh}
 use Rattle.allot.proofs.Moving.{taker_fits, first_is, first_brew_fits, fresh_more, begun}
 use Rattle.allot.proofs.run.Run.begin.Goals as goal
 

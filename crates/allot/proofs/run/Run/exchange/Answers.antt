@@ -1,6 +1,6 @@
 use Rattle.std.proofs.Common.{refl, arith}
 use Rattle.allot.specs.Runs.{in_line}
-use Rattle.allot.proofs.Moving.{stands_at_a_brew, first_fits, its_brew_fits, last_fits, taker_fits, exchange_state, exchange_refused}
+use Rattle.allot.proofs.Moving.{stands_at_a_brew, first_fits, its_brew_fits, last_fits, exchange_state, exchange_refused}
 use Rattle.allot.proofs.run.Run.exchange.Goals as goal
 
 pub bounds-self-brew : goal.bounds-self-brew

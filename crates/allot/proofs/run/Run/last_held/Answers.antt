@@ -1,4 +1,4 @@
-use Rattle.std.proofs.Common.{◌≡◌, ℕ, ◌-◌, ◌<◌, ◌≤◌, true, false, sym, subst, ⊎_elim, arith}
+use Rattle.std.proofs.Common.{◌≡◌, true, false, sym, subst, ⊎_elim, arith}
 use Rattle.std.proofs.lemmas.Bool.{cases_eq, both_ways}
 use Rattle.acceptance.specs.Running.{holds}
 use Rattle.allot.specs.Prepared.{market_in}

@@ -1,5 +1,4 @@
-use Rattle.std.proofs.Common.{◌≡◌, ◌+◌, subst, arith}
-use Rattle.fair.specs.Allotments.{brew_of}
+use Rattle.std.proofs.Common.{subst, arith}
 use Rattle.choices.specs.Chosen.{brews_of}
 use Rattle.acceptance.specs.Rankings.{NextAfter}
 use Rattle.allot.specs.Prepared.{market_in}

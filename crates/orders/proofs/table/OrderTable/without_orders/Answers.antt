@@ -1,6 +1,5 @@
 use Rattle.std.proofs.Common.{refl, ap}
 use mathlib.Core.Path.{fun_ext}
-use Rattle.orders.specs.Books.{Meaning}
 use Rattle.orders.proofs.Blank.{zeros_low, zeros_high, zeros_apart, zeros_order}
 use Rattle.orders.proofs.table.OrderTable.without_orders.Goals as goal
 
