@@ -5,6 +5,7 @@
 use anyhow::anyhow;
 use std::env;
 use std::io::Read;
+use std::process::ExitCode;
 
 mod answer;
 mod line;
@@ -29,10 +30,12 @@ fn run(rt: &HostRuntime) -> anyhow::Result<()> {
     Ok(())
 }
 
-fn main(rt: HostRuntime) -> anyhow::Result<()> {
-    let done = run(&rt);
-    if let Err(e) = &done {
-        let _ = eprintln!(rt; "readcard: {e}");
+fn main(rt: HostRuntime) -> ExitCode {
+    match run(&rt) {
+        Ok(()) => ExitCode::SUCCESS,
+        Err(e) => {
+            let _ = eprintln!(rt; "readcard: {e}");
+            ExitCode::FAILURE
+        }
     }
-    done
 }
