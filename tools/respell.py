@@ -1,9 +1,10 @@
 #!/usr/bin/env python3
 """Gives the definitions and lemmas of specs/ and proofs/ names in snake case.
 
-Run once, at the top, after the upgrade's own script. The names stand in respelled-names.txt beside
-this file, old and new. Only whole words of .antt files and of the ghost lines and clauses of .rt
-files are replaced; functions, strings, inputs and outputs keep their names.
+Run once, at the top, after the upgrade's own script: of two pairs of names the new one of the first is
+the old one of the second, so a second run would garble them. The names stand in respelled-names.txt
+beside this file, old and new. Whole words are replaced, in .antt and .rt files, must-fail edits and
+pages; none of the old names is that of a function or field of src/, or stands in a string.
 """
 import glob
 import pathlib
