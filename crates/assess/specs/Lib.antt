@@ -1,3 +1,4 @@
+pub mod Markets
 pub mod Missing
 pub mod Compared
 pub mod Lots

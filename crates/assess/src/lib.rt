@@ -4,5 +4,6 @@
 pub mod compare;
 pub mod envy;
 pub mod lots;
+pub mod market;
 pub mod missing;
 pub mod place;
