@@ -4,6 +4,7 @@ use orders::book::OrderBook;
 use orders::card_book::CardBook;
 use orders::fault::{BookFault, CardFault, RefusedCard};
 use orders::reader::CardReader;
+use refusal::Fault;
 use std::process::Abort;
 use std::test::Fail;
 

@@ -1,5 +1,6 @@
 -- The number and the place by which the refusal of a choice is told.
-use Rattle.orders.specs.Refusals.{Refusal, told}
+use Rattle.refusal.specs.declared.Refusal.{Refusal}
+use Rattle.refusal.specs.Told.{told}
 use Rattle.choices.specs.declared.fault.ChoiceFault.{ChoiceFault}
 use Rattle.choices.specs.declared.fault.ChoiceFault.TheVariants.{Length, Entry}
 

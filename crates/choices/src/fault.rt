@@ -1,7 +1,8 @@
 //! Why a choice is refused.
 
-ghost use Rattle.std.specs.Prelude.{◌≡◌};
 ghost use Rattle.choices.specs.Faults.{choice_refusal};
+
+use refusal::{Fault, Refusal};
 
 /// What is wrong with a list of the brews to open. Entries are counted from 1.
 #[derive(Clone, Copy, PartialEq, Eq, Debug)]
@@ -12,21 +13,15 @@ pub enum ChoiceFault {
     Entry { entry: usize },
 }
 
-impl ChoiceFault {
-    /// The number by which the refusal is told.
-    pub fn number(&self) -> u8
-        ensures { result ≡ (choice_refusal self.now).number }
-    {
-        8
-    }
+/// It is told with the entry, or 0.
+impl Fault for ChoiceFault {
+    ghost refusal = { choice_refusal };
 
-    /// The entry, or 0.
-    pub fn place(&self) -> usize
-        ensures { result ≡ (choice_refusal self.now).place }
-    {
-        match self {
+    fn refusal(&self) -> Refusal {
+        let place = match *self {
             ChoiceFault::Length => 0,
-            ChoiceFault::Entry { entry } => *entry,
-        }
+            ChoiceFault::Entry { entry } => entry,
+        };
+        Refusal::new(8, place)
     }
 }

@@ -1,10 +1,8 @@
--- The number and the place that a fault reports.
-use Rattle.std.specs.Prelude.{ℕ}
+-- The number and the place by which a refusal of the line is told.
+use Rattle.refusal.specs.declared.Refusal.{Refusal}
+use Rattle.refusal.specs.Told.{told}
 use Rattle.line.specs.declared.fault.LineFault.{LineFault}
 use Rattle.line.specs.declared.fault.LineFault.TheVariants.{Full}
 
-abbrev pub number_of : LineFault → ℕ
-number_of (Full n) = 21
-
-abbrev pub place_of : LineFault → ℕ
-place_of (Full n) = n
+abbrev pub line_refusal : LineFault → Refusal
+line_refusal (Full capacity) = told 21 capacity

@@ -1,7 +1,8 @@
 //! Why an element is refused.
 
-ghost use Rattle.std.specs.Prelude.{◌≡◌};
-ghost use Rattle.line.specs.Fault.{number_of, place_of};
+ghost use Rattle.line.specs.Fault.{line_refusal};
+
+use refusal::{Fault, Refusal};
 
 /// Why an element is refused.
 #[derive(Clone, Copy, PartialEq, Eq, Debug)]
@@ -10,22 +11,13 @@ pub enum LineFault {
     Full { capacity: usize },
 }
 
-impl LineFault {
-    /// The fault's number.
-    pub fn number(&self) -> u8
-        ensures { result ≡ number_of self.now }
-    {
-        match self {
-            LineFault::Full { .. } => 21,
-        }
-    }
+/// It is told with how many places the full slice has.
+impl Fault for LineFault {
+    ghost refusal = { line_refusal };
 
-    /// How many places the full slice has.
-    pub fn place(&self) -> usize
-        ensures { result ≡ place_of self.now }
-    {
-        match self {
-            LineFault::Full { capacity } => *capacity,
+    fn refusal(&self) -> Refusal {
+        match *self {
+            LineFault::Full { capacity } => Refusal::new(21, capacity),
         }
     }
 }

@@ -4,6 +4,7 @@
 #[cfg(test)]
 mod tests {
     use line::{Line, LineFault};
+    use refusal::Fault;
     use std::process::Abort;
     use std::test::Fail;
 

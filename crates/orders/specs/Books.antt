@@ -2,10 +2,10 @@
 use Rattle.std.specs.Prelude.{◌≡◌, ℕ, ◌-◌, ◌*◌, ◌<◌, ◌≤◌, Bool, true, false, cond, ◌&&◌, List, length, Some, None, Ok, Err, Option, Result, ◌==◌, nat_le, slice_index}
 use Rattle.std.specs.Option.{option_map}
 use Rattle.orders.specs.declared.fault.CardFault.{CardFault}
-use Rattle.orders.specs.declared.fault.RefusedCard.{RefusedCard}
 use Rattle.orders.specs.declared.fault.BookFault.{BookFault}
 use Rattle.orders.specs.declared.fault.BookFault.TheVariants.{Size, Chooser, Card}
-use Rattle.orders.specs.Refusals.{book_refusal, told}
+use Rattle.orders.specs.Refusals.{book_refusal}
+use Rattle.refusal.specs.Told.{told}
 
 -- k is one of 1 to n
 abbrev pub within : ℕ → ℕ → Bool
@@ -61,11 +61,6 @@ read_card reading book chooser card = cond (within chooser book.choosers) (of_ch
 abbrev pub ReadInto : Result (List ℕ) CardFault → List ℕ → Result (Unit {0}) CardFault → List ℕ → Type 0
 ReadInto reading before (Ok _) after = reading ≡ Ok after
 ReadInto reading before (Err fault) after = (reading ≡ Err fault) × (after ≡ before)
-
--- The same, where a refusal also tells whose card it was.
-abbrev pub ReadFor : ℕ → Result (List ℕ) CardFault → List ℕ → Result (Unit {0}) RefusedCard → List ℕ → Type 0
-ReadFor chooser reading before (Ok _) after = reading ≡ Ok after
-ReadFor chooser reading before (Err card) after = (reading ≡ Err card.fault) × (card.chooser ≡ chooser) × (after ≡ before)
 
 -- Clearing a book: what it answers, with the book before and after.
 abbrev pub Cleared : ℕ → ℕ → Meaning → Result (Unit {0}) BookFault → Meaning → Type 0

@@ -1,16 +1,10 @@
 -- The number and the place by which each refusal is told.
-use Rattle.std.specs.Prelude.{ℕ}
+use Rattle.refusal.specs.declared.Refusal.{Refusal}
+use Rattle.refusal.specs.Told.{told}
 use Rattle.orders.specs.declared.fault.CardFault.{CardFault}
 use Rattle.orders.specs.declared.fault.CardFault.TheVariants.{Length, OutOfRange, Repeated}
 use Rattle.orders.specs.declared.fault.BookFault.{BookFault}
 use Rattle.orders.specs.declared.fault.BookFault.TheVariants.{Size, Chooser, Card}
-
-pub record Refusal : Type 0 where
-  pub number : ℕ
-  pub place : ℕ
-
-abbrev pub told : ℕ → ℕ → Refusal
-told n p = record { number = n; place = p }
 
 -- an entry is told by its number on the card, from 1
 abbrev pub card_refusal : CardFault → Refusal

@@ -1,7 +1,7 @@
 //! A book of any kind of card: a reader of cards over the one table.
 
-ghost use Rattle.std.specs.Prelude.{◌≡◌, true, length};
-ghost use Rattle.orders.specs.Books.{Entered, ReadFor, blank, within};
+ghost use Rattle.std.specs.Prelude.{◌≡◌};
+ghost use Rattle.orders.specs.Books.{blank};
 ghost use Rattle.orders.specs.Tables.{table_meaning};
 ghost use Rattle.orders.specs.Kept.{table_sound};
 
@@ -18,21 +18,6 @@ pub struct CardBook<R> {
     table: OrderTable,
 }
 
-/// Reads a card into a row, and tells whose card was refused.
-fn read_row<R: CardReader>(
-    reader: &R,
-    card: &[u8],
-    chooser: usize,
-    row: &mut [u16],
-) -> Result<(), RefusedCard>
-    ensures { ReadFor chooser (R.CardReader.reads reader.now (length row.old) chooser card.now) row.old result row.new }
-{
-    match reader.read(card, chooser, row) {
-        Ok(()) => Ok(()),
-        Err(fault) => Err(RefusedCard { chooser, fault }),
-    }
-}
-
 impl<R: CardReader> CardBook<R> {
     /// A fresh book has neither choosers nor items.
     pub fn new(reader: R) -> CardBook<R>
@@ -44,25 +29,14 @@ impl<R: CardReader> CardBook<R> {
             table: OrderTable::new(),
         }
     }
-
-    /// Enters the card of a chooser of the book, by way of a row with a place for each item.
-    fn enter_by(&mut self, chooser: usize, card: &[u8], row: &mut [u16]) -> Result<(), BookFault>
-        requires { (within chooser self.old.table.choosers ≡ true) × (length row.old ≡ self.old.table.items) }
-        ensures entered { Entered (R.CardReader.reads self.old.reader) chooser card.now (table_meaning self.old.table) result (table_meaning self.new.table) }
-        ensures kind { self.new.reader ≡ self.old.reader }
-    {
-        read_row(&self.reader, card, chooser, row)?;
-        self.table.keep(chooser, row);
-        Ok(())
-    }
 }
 
 impl<R: CardReader> OrderBook for CardBook<R> {
     ghost meaning = { λ book. table_meaning book.table };
 
-    ghost reading = { λ book. R.CardReader.reads book.reader };
+    ghost reading = { λ book. R.reads book.reader };
 
-    ghost reads_orders = { λ book. R.CardReader.reads_orders book.reader };
+    ghost reads_orders = { λ book. R.reads_orders book.reader };
 
     ghost sound = { λ book. table_sound book.table };
 
@@ -82,9 +56,13 @@ impl<R: CardReader> OrderBook for CardBook<R> {
         if !self.table.has(chooser) {
             return Err(BookFault::Chooser);
         }
-        let items = self.items();
-        let mut row = [0; MOST];
-        self.enter_by(chooser, card, &mut row[0..items])
+        let mut places = [0; MOST];
+        let row = &mut places[..self.items()];
+        self.reader
+            .read(card, chooser, row)
+            .map_err(|fault| RefusedCard { chooser, fault })?;
+        self.table.keep(chooser, row);
+        Ok(())
     }
 
     fn place(&self, chooser: usize, item: usize) -> Option<u16> {

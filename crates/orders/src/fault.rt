@@ -4,6 +4,8 @@ ghost use Rattle.std.specs.Prelude.{◌≡◌};
 ghost use Rattle.orders.specs.Refusals.{card_refusal, book_refusal};
 ghost use Rattle.orders.specs.declared.fault.BookFault.TheVariants.{Card};
 
+use refusal::{Fault, Refusal};
+
 /// What is wrong with a card. Entries are counted from 1.
 #[derive(Clone, Copy, PartialEq, Eq, Debug)]
 pub enum CardFault {
@@ -15,26 +17,15 @@ pub enum CardFault {
     Repeated { entry: usize },
 }
 
-impl CardFault {
-    /// The number by which the refusal is told.
-    pub fn number(&self) -> u8
-        ensures { result ≡ (card_refusal self.now).number }
-    {
-        match self {
-            CardFault::Length => 1,
-            CardFault::OutOfRange { .. } => 2,
-            CardFault::Repeated { .. } => 3,
-        }
-    }
+/// It is told with the entry, or 0.
+impl Fault for CardFault {
+    ghost refusal = { card_refusal };
 
-    /// Where on the card: the entry, or 0.
-    pub fn place(&self) -> usize
-        ensures { result ≡ (card_refusal self.now).place }
-    {
-        match self {
-            CardFault::Length => 0,
-            CardFault::OutOfRange { entry } => *entry,
-            CardFault::Repeated { entry } => *entry,
+    fn refusal(&self) -> Refusal {
+        match *self {
+            CardFault::Length => Refusal::new(1, 0),
+            CardFault::OutOfRange { entry } => Refusal::new(2, entry),
+            CardFault::Repeated { entry } => Refusal::new(3, entry),
         }
     }
 }
@@ -57,26 +48,15 @@ pub enum BookFault {
     Card(RefusedCard),
 }
 
-impl BookFault {
-    /// The number by which the refusal is told.
-    pub fn number(&self) -> u8
-        ensures { result ≡ (book_refusal self.now).number }
-    {
-        match self {
-            BookFault::Size => 4,
-            BookFault::Chooser => 5,
-            BookFault::Card(card) => card.fault.number(),
-        }
-    }
+/// It is told with the card's entry, or 0.
+impl Fault for BookFault {
+    ghost refusal = { book_refusal };
 
-    /// The card's entry, or 0.
-    pub fn place(&self) -> usize
-        ensures { result ≡ (book_refusal self.now).place }
-    {
+    fn refusal(&self) -> Refusal {
         match self {
-            BookFault::Size => 0,
-            BookFault::Chooser => 0,
-            BookFault::Card(card) => card.fault.place(),
+            BookFault::Size => Refusal::new(4, 0),
+            BookFault::Chooser => Refusal::new(5, 0),
+            BookFault::Card(card) => card.fault.refusal(),
         }
     }
 }

@@ -4,6 +4,7 @@ ghost use Rattle.std.specs.Prelude.{Some};
 ghost use Rattle.readcard.specs.Printed.{printed};
 
 use orders::fault::BookFault;
+use refusal::Fault;
 use std::fmt;
 
 /// A line of the printed answer.
@@ -21,11 +22,7 @@ impl fmt::Display for Line {
         match self {
             Line::Ok => write!(f, "ok"),
             Line::Place { item, place } => write!(f, "item {item} place {place}"),
-            Line::Refused(fault) => {
-                let number = fault.number();
-                let place = fault.place();
-                write!(f, "refused {number} at {place}")
-            }
+            Line::Refused(fault) => write!(f, "refused {}", fault.refusal()),
         }
     }
 }
