@@ -109,53 +109,59 @@ module _ {X : Type 0} (l : Line) (xs : List X) (x : X) (long : length xs ≡ l.c
   all_are k d h =
       ⊎_elim (others_are k d) (λ (le : l.count ≤ k). let e : k ≡ l.count = omega arith in rw e (last_is d)) (cases_lt k l.count)
 
--- The line t goes one further than l, and p is the vacant place.
-module _ {X : Type 0} (l t : Line) (xs : List X) (x : X) (p : ℕ) (long : length xs ≡ l.capacity) (room : l.count < l.capacity)
+-- The line s stands over xs as l does, t goes one further than l, and p is the vacant place.
+module _ {X : Type 0} (s l t : Line) (xs : List X) (x : X) (p : ℕ) (over : Over s xs l) (room : l.count < l.capacity)
     (at : p ≡ place_at l l.count) (wide : t.capacity ≡ l.capacity) (first : t.head ≡ l.head)
     (more : t.count ≡ l.count + 1) where
+  long_before : length xs ≡ l.capacity
+  long_before = sym over.wide
+
   long_after : length (written l xs x) ≡ t.capacity
-  long_after = length-set xs (place_at l l.count) x ∙ long ∙ sym wide
+  long_after = length-set xs (place_at l l.count) x ∙ long_before ∙ sym wide
 
   longer_at : (k : ℕ) (d : X) → k < l.count + 1 →
       get_or (held t (written l xs x)) k d ≡ get_or (held l xs ++ x ∷ []) k d
   longer_at k d h =
       held_at t (written l xs x) long_after k d (omega arith)
       ∙ ap (λ i. get_or (written l xs x) i d) (place_same t l k wide first)
-      ∙ all_are l xs x long room k d h
+      ∙ all_are l xs x long_before room k d h
 
   longer : held t (written l xs x) ≡ held l xs ++ x ∷ []
   longer =
       let n : length (held t (written l xs x)) ≡ t.count = length_held t (written l xs x) long_after in
       let m : length (held l xs ++ x ∷ []) ≡ length (held l xs) + 1 = length_push (held l xs) x in
-      let e : length (held l xs) ≡ l.count = length_held l xs long in
+      let e : length (held l xs) ≡ l.count = length_held l xs long_before in
       same_lists (held t (written l xs x)) (held l xs ++ x ∷ []) (omega arith) (λ k d h. longer_at k d (omega arith))
 
-  pub joins : PutDone l xs x t (set xs p x)
+  pub joins : PutDone s xs x t (set xs p x)
   joins =
       record {
-        room = rw (length_held l xs long, long) room;
-        behind = ap (λ i. held t (set xs i x)) at ∙ longer;
-        slots = ap (λ i. set xs i x) (at ∙ sym (vacant_whole l xs long));
+        room = omega arith;
+        behind = ap (λ i. held t (set xs i x)) at ∙ longer ∙ ap (λ ys. ys ++ x ∷ []) (sym over.same);
+        slots = ap (λ i. set xs i x) (at ∙ sym (vacant_whole l xs long_before) ∙ sym over.free);
       }
 
--- The line t begins one behind the head of l.
-module _ {X : Type 0} (l t : Line) (xs : List X) (x : X) (p : ℕ) (long : length xs ≡ l.capacity) (some : 0 < l.count)
+-- The line s stands over xs as l does, and t begins one behind the head of l.
+module _ {X : Type 0} (s l t : Line) (xs : List X) (x : X) (p : ℕ) (over : Over s xs l) (some : 0 < l.count)
     (at : p ≡ place_at l 0) (is : x ≡ get_or xs p x) (wide : t.capacity ≡ l.capacity) (first : t.head ≡ place_at l 1)
     (less : t.count ≡ l.count - 1) where
+  long_still : length xs ≡ l.capacity
+  long_still = sym over.wide
+
   rest_is : (k : ℕ) (d : X) → k < l.count → get_or (held l xs) k d ≡ get_or (x ∷ held t xs) k d
   rest_is zero d h =
-      let within : p < length xs = rw (at, long) (place_within l 0 (omega arith)) in
-      held_at l xs long 0 d some ∙ ap (λ i. get_or xs i d) (sym at) ∙ sym (get_or_read xs p x within is d)
+      let within : p < length xs = rw (at, long_still) (place_within l 0 (omega arith)) in
+      held_at l xs long_still 0 d some ∙ ap (λ i. get_or xs i d) (sym at) ∙ sym (get_or_read xs p x within is d)
   rest_is (suc k) d h =
-      held_at l xs long (suc k) d h
+      held_at l xs long_still (suc k) d h
       ∙ ap (λ i. get_or xs i d) (place_next l t k wide first (omega arith))
-      ∙ sym (held_at t xs (long ∙ sym wide) k d (omega arith))
+      ∙ sym (held_at t xs (long_still ∙ sym wide) k d (omega arith))
 
-  pub leaves : TakeDone l xs x t
+  pub leaves : TakeDone s xs x t
   leaves =
-      let n : length (held l xs) ≡ l.count = length_held l xs long in
-      let m : length (held t xs) ≡ t.count = length_held t xs (long ∙ sym wide) in
+      let n : length (held l xs) ≡ l.count = length_held l xs long_still in
+      let m : length (held t xs) ≡ t.count = length_held t xs (long_still ∙ sym wide) in
       record {
-        oldest = same_lists (held l xs) (x ∷ held t xs) (omega arith) (λ k d h. rest_is k d (omega arith));
-        wide = wide ∙ sym long;
+        oldest = over.same ∙ same_lists (held l xs) (x ∷ held t xs) (omega arith) (λ k d h. rest_is k d (omega arith));
+        wide = wide ∙ over.wide;
       }

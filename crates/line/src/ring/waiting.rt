@@ -42,13 +42,15 @@ impl Line {
         ensures done { Put self.old slots.old x self.new slots.new result }
         ensures stays { start self.new slots.new ≡ start self.old slots.old }
     {
-        let line = self.over(slots);
+        let mut line = self.over(slots);
         if line.count == slots.len() {
             return Err(LineFault::Full {
                 capacity: slots.len(),
             });
         }
-        *self = line.with_last(slots, x);
+        slots[line.place(line.count)] = x;
+        line.count += 1;
+        *self = line;
         Ok(())
     }
 
@@ -56,12 +58,14 @@ impl Line {
     pub fn take<T: Copy>(&mut self, slots: &[T]) -> Option<T>
         ensures { Take self.old slots.now self.new result }
     {
-        let line = self.over(slots);
+        let mut line = self.over(slots);
         if line.count == 0 {
             return None;
         }
-        let (oldest, rest) = line.split_first(slots);
-        *self = rest;
+        let oldest = slots[line.place(0)];
+        line.head = line.place(1);
+        line.count -= 1;
+        *self = line;
         Some(oldest)
     }
 
@@ -86,36 +90,6 @@ impl Line {
         } else {
             Line::empty(slots.len())
         }
-    }
-
-    // Writes `x` into the vacant place behind the last element.
-    fn with_last<T: Copy>(&self, slots: &mut [T], x: T) -> Line
-        requires whole { length slots.old ≡ self.now.capacity }
-        requires room { self.now.count < self.now.capacity }
-        ensures done { PutDone self.now slots.old x result slots.new }
-        ensures stays { start result slots.new ≡ start self.now slots.old }
-    {
-        slots[self.place(self.count)] = x;
-        Line {
-            capacity: self.capacity,
-            head: self.head,
-            count: self.count + 1,
-        }
-    }
-
-    // The oldest element, and the line behind it.
-    fn split_first<T: Copy>(&self, slots: &[T]) -> (T, Line)
-        requires whole { length slots.now ≡ self.now.capacity }
-        requires some { 0 < self.now.count }
-        ensures { TakeDone self.now slots.now result.0 result.1 }
-    {
-        let oldest = slots[self.place(0)];
-        let rest = Line {
-            capacity: self.capacity,
-            head: self.place(1),
-            count: self.count - 1,
-        };
-        (oldest, rest)
     }
 
     // The place that is `k` behind the head. `head + k` could pass the largest
