@@ -5,7 +5,6 @@ use orders::card_book::CardBook;
 use orders::fault::{BookFault, CardFault, RefusedCard};
 use orders::reader::CardReader;
 use refusal::Fault;
-use std::process::Abort;
 use std::test::Fail;
 
 /// A card of three entries below 256.
@@ -13,43 +12,14 @@ fn card(entries: [u8; 3]) -> [u8; 6] {
     [0, entries[0], 0, entries[1], 0, entries[2]]
 }
 
-fn refused(
-    rt: &impl Abort,
-    r: Result<(), BookFault>,
-    number: u8,
-    place: usize,
-) -> Result<(), Fail> {
-    match r {
-        Ok(()) => Err(Fail::new("accepted")),
-        Err(fault) => {
-            assert_eq!(rt; fault.number(), number);
-            assert_eq!(rt; fault.place(), place);
-            Ok(())
-        }
-    }
+/// The number and the place by which a call is refused.
+fn refused(answer: Result<(), BookFault>) -> Option<(u8, usize)> {
+    answer.err().map(|fault| (fault.number(), fault.place()))
 }
 
 /// The places of items 1, 2 and 3 with a chooser.
 fn places<B: OrderBook>(book: &B, chooser: usize) -> [Option<u16>; 3] {
-    [
-        book.place(chooser, 1),
-        book.place(chooser, 2),
-        book.place(chooser, 3),
-    ]
-}
-
-fn holds<B: OrderBook>(rt: &impl Abort, book: &B, chooser: usize, expected: [u16; 3]) {
-    let [a, b, c] = places(book, chooser);
-    assert_eq!(rt; a, Some(expected[0]));
-    assert_eq!(rt; b, Some(expected[1]));
-    assert_eq!(rt; c, Some(expected[2]));
-}
-
-fn empty<B: OrderBook>(rt: &impl Abort, book: &B, chooser: usize) {
-    let [a, b, c] = places(book, chooser);
-    assert_eq!(rt; a, None);
-    assert_eq!(rt; b, None);
-    assert_eq!(rt; c, None);
+    [1, 2, 3].map(|item| book.place(chooser, item))
 }
 
 #[test]
@@ -57,8 +27,8 @@ fn a_list_is_read_from_best_to_worst(rt: HostRuntime) -> Result<(), Fail> {
     let mut book = CardBook::new(WrittenList);
     book.clear(2, 3)?;
     book.enter(2, &card([2, 3, 1]))?;
-    holds(&rt, &book, 2, [3, 1, 2]);
-    empty(&rt, &book, 1);
+    assert_eq!(rt; places(&book, 2), [3, 1, 2].map(Some));
+    assert_eq!(rt; places(&book, 1), [None; 3]);
     Ok(())
 }
 
@@ -67,9 +37,9 @@ fn points_are_read_with_ties_by_item_number(rt: HostRuntime) -> Result<(), Fail>
     let mut book = CardBook::new(Points);
     book.clear(1, 3)?;
     book.enter(1, &card([7, 9, 7]))?;
-    holds(&rt, &book, 1, [2, 1, 3]);
+    assert_eq!(rt; places(&book, 1), [2, 1, 3].map(Some));
     book.enter(1, &card([0, 0, 0]))?;
-    holds(&rt, &book, 1, [1, 2, 3]);
+    assert_eq!(rt; places(&book, 1), [1, 2, 3].map(Some));
     Ok(())
 }
 
@@ -78,7 +48,7 @@ fn the_higher_byte_of_points_counts(rt: HostRuntime) -> Result<(), Fail> {
     let mut book = CardBook::new(Points);
     book.clear(1, 3)?;
     book.enter(1, &[0, 255, 1, 0, 255, 255])?;
-    holds(&rt, &book, 1, [3, 2, 1]);
+    assert_eq!(rt; places(&book, 1), [3, 2, 1].map(Some));
     Ok(())
 }
 
@@ -86,37 +56,44 @@ fn the_higher_byte_of_points_counts(rt: HostRuntime) -> Result<(), Fail> {
 fn the_first_bad_entry_of_a_list_decides(rt: HostRuntime) -> Result<(), Fail> {
     let mut book = CardBook::new(WrittenList);
     book.clear(1, 3)?;
-    refused(&rt, book.enter(1, &card([2, 2, 0])), 3, 2)?;
-    refused(&rt, book.enter(1, &card([0, 1, 2])), 2, 1)?;
-    refused(&rt, book.enter(1, &card([1, 2, 0])), 2, 3)?;
-    refused(&rt, book.enter(1, &card([4, 1, 2])), 2, 1)?;
-    refused(&rt, book.enter(1, &card([1, 2, 4])), 2, 3)?;
-    refused(&rt, book.enter(1, &card([1, 2, 1])), 3, 3)?;
-    refused(&rt, book.enter(1, &card([0, 0, 0])), 2, 1)?;
-    refused(&rt, book.enter(1, &[0, 2, 1, 1, 0, 1]), 2, 2)?;
-    empty(&rt, &book, 1);
+    for (entries, refusal) in [
+        ([2, 2, 0], (3, 2)),
+        ([0, 1, 2], (2, 1)),
+        ([1, 2, 0], (2, 3)),
+        ([4, 1, 2], (2, 1)),
+        ([1, 2, 4], (2, 3)),
+        ([1, 2, 1], (3, 3)),
+        ([0, 0, 0], (2, 1)),
+    ] {
+        assert_eq!(rt;
+            refused(book.enter(1, &card(entries))),
+            Some(refusal),
+            "{entries:?}"
+        );
+    }
+    assert_eq!(rt; refused(book.enter(1, &[0, 2, 1, 1, 0, 1])), Some((2, 2)));
+    assert_eq!(rt; places(&book, 1), [None; 3]);
     Ok(())
 }
 
 #[test]
 fn a_card_of_the_wrong_length_is_refused(rt: HostRuntime) -> Result<(), Fail> {
     let mut list = CardBook::new(WrittenList);
-    list.clear(1, 3)?;
-    refused(&rt, list.enter(1, &[0, 2, 0, 3, 0]), 1, 0)?;
-    refused(&rt, list.enter(1, &[0, 2, 0, 3, 0, 1, 0]), 1, 0)?;
-    refused(&rt, list.enter(1, &[]), 1, 0)?;
     let mut points = CardBook::new(Points);
+    list.clear(1, 3)?;
     points.clear(1, 3)?;
-    refused(&rt, points.enter(1, &[0, 2, 0, 3, 0]), 1, 0)?;
-    refused(&rt, points.enter(1, &[0, 2, 0, 3, 0, 1, 0]), 1, 0)?;
-    empty(&rt, &points, 1);
+    for card in [&[0, 2, 0, 3, 0][..], &[0, 2, 0, 3, 0, 1, 0], &[]] {
+        assert_eq!(rt; refused(list.enter(1, card)), Some((1, 0)));
+        assert_eq!(rt; refused(points.enter(1, card)), Some((1, 0)));
+    }
+    assert_eq!(rt; places(&points, 1), [None; 3]);
     Ok(())
 }
 
 #[test]
 fn sizes_are_accepted_up_to_the_limits(rt: HostRuntime) -> Result<(), Fail> {
     let mut book = CardBook::new(WrittenList);
-    for sizes in [
+    for (choosers, items) in [
         (432, 16),
         (16, 432),
         (1, 1),
@@ -125,7 +102,6 @@ fn sizes_are_accepted_up_to_the_limits(rt: HostRuntime) -> Result<(), Fail> {
         (32, 216),
         (83, 83),
     ] {
-        let (choosers, items) = sizes;
         book.clear(choosers, items)?;
         assert_eq!(rt; book.choosers(), choosers);
         assert_eq!(rt; book.items(), items);
@@ -138,7 +114,7 @@ fn other_sizes_are_refused_and_change_nothing(rt: HostRuntime) -> Result<(), Fai
     let mut book = CardBook::new(WrittenList);
     book.clear(2, 3)?;
     book.enter(1, &card([2, 3, 1]))?;
-    for sizes in [
+    for (choosers, items) in [
         (0, 3),
         (3, 0),
         (433, 1),
@@ -149,11 +125,10 @@ fn other_sizes_are_refused_and_change_nothing(rt: HostRuntime) -> Result<(), Fai
         (17, 432),
         (usize::MAX, usize::MAX),
     ] {
-        let (choosers, items) = sizes;
-        refused(&rt, book.clear(choosers, items), 4, 0)?;
+        assert_eq!(rt; refused(book.clear(choosers, items)), Some((4, 0)));
         assert_eq!(rt; book.choosers(), 2);
         assert_eq!(rt; book.items(), 3);
-        holds(&rt, &book, 1, [3, 1, 2]);
+        assert_eq!(rt; places(&book, 1), [3, 1, 2].map(Some));
     }
     Ok(())
 }
@@ -164,7 +139,7 @@ fn a_fresh_book_has_neither_choosers_nor_items(rt: HostRuntime) -> Result<(), Fa
     assert_eq!(rt; book.choosers(), 0);
     assert_eq!(rt; book.items(), 0);
     assert_eq!(rt; book.place(1, 1), None);
-    refused(&rt, book.enter(1, &card([1, 2, 3])), 5, 0)?;
+    assert_eq!(rt; refused(book.enter(1, &card([1, 2, 3]))), Some((5, 0)));
     assert_eq!(rt; book.choosers(), 0);
     Ok(())
 }
@@ -173,9 +148,9 @@ fn a_fresh_book_has_neither_choosers_nor_items(rt: HostRuntime) -> Result<(), Fa
 fn a_chooser_or_an_item_out_of_range_is_told(rt: HostRuntime) -> Result<(), Fail> {
     let mut book = CardBook::new(WrittenList);
     book.clear(2, 3)?;
-    refused(&rt, book.enter(0, &card([2, 3, 1])), 5, 0)?;
-    refused(&rt, book.enter(3, &card([2, 3, 1])), 5, 0)?;
-    refused(&rt, book.enter(3, &[]), 5, 0)?;
+    assert_eq!(rt; refused(book.enter(0, &card([2, 3, 1]))), Some((5, 0)));
+    assert_eq!(rt; refused(book.enter(3, &card([2, 3, 1]))), Some((5, 0)));
+    assert_eq!(rt; refused(book.enter(3, &[])), Some((5, 0)));
     book.enter(2, &card([2, 3, 1]))?;
     assert_eq!(rt; book.place(2, 0), None);
     assert_eq!(rt; book.place(2, 4), None);
@@ -205,9 +180,9 @@ fn a_card_replaces_the_one_before(rt: HostRuntime) -> Result<(), Fail> {
     book.enter(2, &card([2, 3, 1]))?;
     book.enter(3, &card([3, 2, 1]))?;
     book.enter(2, &card([3, 1, 2]))?;
-    holds(&rt, &book, 1, [1, 2, 3]);
-    holds(&rt, &book, 2, [2, 3, 1]);
-    holds(&rt, &book, 3, [3, 2, 1]);
+    assert_eq!(rt; places(&book, 1), [1, 2, 3].map(Some));
+    assert_eq!(rt; places(&book, 2), [2, 3, 1].map(Some));
+    assert_eq!(rt; places(&book, 3), [3, 2, 1].map(Some));
     Ok(())
 }
 
@@ -217,10 +192,10 @@ fn a_refused_card_leaves_every_place(rt: HostRuntime) -> Result<(), Fail> {
     book.clear(2, 3)?;
     book.enter(1, &card([2, 3, 1]))?;
     book.enter(2, &card([1, 3, 2]))?;
-    refused(&rt, book.enter(1, &card([3, 2, 3])), 3, 3)?;
-    refused(&rt, book.enter(2, &[0, 1]), 1, 0)?;
-    holds(&rt, &book, 1, [3, 1, 2]);
-    holds(&rt, &book, 2, [1, 3, 2]);
+    assert_eq!(rt; refused(book.enter(1, &card([3, 2, 3]))), Some((3, 3)));
+    assert_eq!(rt; refused(book.enter(2, &[0, 1])), Some((1, 0)));
+    assert_eq!(rt; places(&book, 1), [3, 1, 2].map(Some));
+    assert_eq!(rt; places(&book, 2), [1, 3, 2].map(Some));
     Ok(())
 }
 
@@ -231,11 +206,11 @@ fn a_book_cleared_again_forgets_all(rt: HostRuntime) -> Result<(), Fail> {
     book.enter(1, &card([7, 9, 7]))?;
     book.enter(2, &card([1, 2, 3]))?;
     book.clear(2, 3)?;
-    empty(&rt, &book, 1);
-    empty(&rt, &book, 2);
+    assert_eq!(rt; places(&book, 1), [None; 3]);
+    assert_eq!(rt; places(&book, 2), [None; 3]);
     book.enter(2, &card([9, 7, 8]))?;
-    empty(&rt, &book, 1);
-    holds(&rt, &book, 2, [1, 3, 2]);
+    assert_eq!(rt; places(&book, 1), [None; 3]);
+    assert_eq!(rt; places(&book, 2), [1, 3, 2].map(Some));
     Ok(())
 }
 
@@ -262,20 +237,16 @@ fn a_row_of_no_book_is_asked_for_no_card(rt: HostRuntime) -> Result<(), Fail> {
         Err(CardFault::Length)
     );
     assert_eq!(rt; Points.read(&[0; 866], 1, &mut row), Err(CardFault::Length));
-    for place in row {
-        assert_eq!(rt; place, 7);
-    }
+    assert_eq!(rt; row, [7; 433]);
     Points.read(&[], 1, &mut [])?;
     Ok(())
 }
 
 /// The list of all 432 items from the last to the first.
-fn backwards() -> [u8; 864] {
-    let mut card = [0u8; 864];
-    for k in 0..432usize {
-        let item = 432 - k;
-        card[2 * k] = (item / 256) as u8;
-        card[2 * k + 1] = (item % 256) as u8;
+fn backwards() -> [[u8; 2]; 432] {
+    let mut card = [[0; 2]; 432];
+    for (entry, item) in card.iter_mut().zip((1..=432u16).rev()) {
+        *entry = item.to_be_bytes();
     }
     card
 }
@@ -284,10 +255,10 @@ fn backwards() -> [u8; 864] {
 fn a_list_of_the_most_items_is_read(rt: HostRuntime) -> Result<(), Fail> {
     let mut book = CardBook::new(WrittenList);
     book.clear(16, 432)?;
-    book.enter(16, &backwards())?;
-    for item in 1..=432usize {
-        assert_eq!(rt; book.place(16, item), Some((433 - item) as u16));
-        assert_eq!(rt; book.place(15, item), None);
+    book.enter(16, backwards().as_flattened())?;
+    for item in 1..=432u16 {
+        assert_eq!(rt; book.place(16, item.into()), Some(433 - item));
+        assert_eq!(rt; book.place(15, item.into()), None);
     }
     Ok(())
 }
@@ -296,9 +267,9 @@ fn a_list_of_the_most_items_is_read(rt: HostRuntime) -> Result<(), Fail> {
 fn points_of_the_most_items_are_read(rt: HostRuntime) -> Result<(), Fail> {
     let mut book = CardBook::new(Points);
     book.clear(16, 432)?;
-    book.enter(1, &backwards())?;
-    for item in 1..=432usize {
-        assert_eq!(rt; book.place(1, item), Some(item as u16));
+    book.enter(1, backwards().as_flattened())?;
+    for item in 1..=432u16 {
+        assert_eq!(rt; book.place(1, item.into()), Some(item));
     }
     Ok(())
 }

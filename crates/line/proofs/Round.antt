@@ -1,5 +1,5 @@
 -- Ring arithmetic: what a line holds, read place by place.
-use Rattle.std.proofs.Common.{◌≡◌, ℕ, zero, suc, cond, ◌==◌, ◌+◌, ◌-◌, ◌<◌, ◌≤◌, ◌≢◌, List, [], ◌∷◌, ◌++◌, length, get_or, take, drop, set, sym, refl, ap, ◌∙◌, ⊎_elim, arith}
+use Rattle.std.proofs.Common.{◌≡◌, ℕ, zero, suc, ◌+◌, ◌-◌, ◌<◌, ◌≤◌, ◌≢◌, List, [], ◌∷◌, ◌++◌, length, get_or, take, drop, set, sym, ap, ◌∙◌, ⊎_elim, arith}
 use Rattle.std.proofs.lemmas.List.{length-take, length-drop, length-append, length-set, length_push, same_lists, get_or_append_left, get_or-append_right, get_or-take, get_or-drop, get_or_push, get_or_read, get_or-set_same, get_or-set_other}
 use Rattle.std.proofs.lemmas.Bool.{cases_eq, cases_lt, eq-eqb, ne_eqb, lt-ltb, le-ltb, cond-true, cond-false}
 use Rattle.std.proofs.lemmas.Bool.Decides.{nat_tests}
@@ -58,16 +58,6 @@ module _ {X : Type 0} (l : Line) (xs : List X) (long : length xs ≡ l.capacity)
   held_at : (k : ℕ) (d : X) → k < l.count → get_or (held l xs) k d ≡ get_or xs (place_at l k) d
   held_at k d h = ap (λ ys. get_or ys k d) held_whole ∙ rw (get_or-take, get_or-drop) (doubled k d (omega arith))
 
-  -- Such a line stands as it is.
-  pub stands : Over l xs l
-  stands =
-      record {
-        wide = sym long;
-        many = length_held;
-        same = refl;
-        free = refl;
-      }
-
 -- What starts at the first place has the vacant one right behind it.
 pub vacant_from_first : {X : Type 0} (l : Line) (xs : List X) → start l xs ≡ 0 → length (held l xs) < length xs → vacant l xs ≡ length (held l xs)
 vacant_from_first l xs first room =
@@ -79,11 +69,6 @@ vacant_from_first l xs first room =
     (λ (other : length xs ≡ l.capacity → ⊥).
     cond-false _ _ _ (ne_eqb _ _ other) ∙ sym (ap length (cond-false _ (take l.count (drop l.head (xs ++ xs))) [] (ne_eqb (length xs) l.capacity other))))
     (cases_eq (length xs) l.capacity)
-
--- A write into the slice leaves the place that the elements start from.
-pub kept_start : {X : Type 0} (l : Line) (xs : List X) (p : ℕ) (x : X) →
-    cond (length (set xs p x) == l.capacity) l.head 0 ≡ start l xs
-kept_start l xs p x = ap (λ n. cond (n == l.capacity) l.head 0) (length-set xs p x)
 
 -- The slice once x is written behind all others.
 abbrev written : {X : Type 0} → Line → List X → X → List X

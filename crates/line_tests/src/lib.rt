@@ -3,9 +3,8 @@
 
 #[cfg(test)]
 mod tests {
-    use line::{Line, LineFault};
-    use refusal::Fault;
-    use std::process::Abort;
+    use line::Line;
+    use refusal::{Fault, Refusal};
     use std::test::Fail;
 
     #[derive(Clone, Copy, PartialEq, Eq, Debug)]
@@ -15,27 +14,12 @@ mod tests {
         rival: u16,
     }
 
-    fn check_full(
-        rt: &impl Abort,
-        answer: Result<(), LineFault>,
-        capacity: usize,
-    ) -> Result<(), Fail> {
-        match answer {
-            Ok(()) => Err(Fail::new("taken in")),
-            Err(fault) => {
-                assert_eq!(rt; fault.number(), 21);
-                assert_eq!(rt; fault.place(), capacity);
-                Ok(())
-            }
-        }
-    }
-
     // A line of 4, 9 and 2.
     fn full_line(slots: &mut [u16]) -> Result<Line, Fail> {
         let mut line = Line::new();
-        line.put(slots, 4)?;
-        line.put(slots, 9)?;
-        line.put(slots, 2)?;
+        for x in [4, 9, 2] {
+            line.put(slots, x)?;
+        }
         Ok(line)
     }
 
@@ -43,7 +27,10 @@ mod tests {
     fn full_line_refuses(rt: HostRuntime) -> Result<(), Fail> {
         let mut slots = [0u16; 3];
         let mut line = full_line(&mut slots)?;
-        check_full(&rt, line.put(&mut slots, 8), 3)?;
+        assert_eq!(rt;
+            line.put(&mut slots, 8).map_err(|fault| fault.refusal()),
+            Err(Refusal::new(21, 3))
+        );
         assert_eq!(rt; slots, [4, 9, 2]);
         assert_eq!(rt; line.len(&slots), 3);
         assert_eq!(rt; line.take(&slots), Some(4));
@@ -59,10 +46,9 @@ mod tests {
         line.put(&mut slots, 8)?;
         line.put(&mut slots, 5)?;
         assert_eq!(rt; line.len(&slots), 3);
-        assert_eq!(rt; line.take(&slots), Some(2));
-        assert_eq!(rt; line.take(&slots), Some(8));
-        assert_eq!(rt; line.take(&slots), Some(5));
-        assert_eq!(rt; line.take(&slots), None);
+        for oldest in [Some(2), Some(8), Some(5), None] {
+            assert_eq!(rt; line.take(&slots), oldest);
+        }
         Ok(())
     }
 
@@ -87,7 +73,10 @@ mod tests {
         let mut line = Line::new();
         line.put(&mut slots, first)?;
         line.put(&mut slots, second)?;
-        check_full(&rt, line.put(&mut slots, third), 2)?;
+        assert_eq!(rt;
+            line.put(&mut slots, third).map_err(|fault| fault.refusal()),
+            Err(Refusal::new(21, 2))
+        );
         assert_eq!(rt; line.take(&slots), Some(first));
         line.put(&mut slots, third)?;
         assert_eq!(rt; line.take(&slots), Some(second));
@@ -100,7 +89,10 @@ mod tests {
     fn no_places(rt: HostRuntime) -> Result<(), Fail> {
         let mut slots: [u16; 0] = [];
         let mut line = Line::new();
-        check_full(&rt, line.put(&mut slots, 4), 0)?;
+        assert_eq!(rt;
+            line.put(&mut slots, 4).map_err(|fault| fault.refusal()),
+            Err(Refusal::new(21, 0))
+        );
         assert_eq!(rt; line.len(&slots), 0);
         assert_eq!(rt; line.take(&slots), None);
         Ok(())

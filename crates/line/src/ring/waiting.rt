@@ -101,3 +101,11 @@ impl Line {
         if k < ahead { self.head + k } else { k - ahead }
     }
 }
+
+impl Default for Line {
+    ghost is_default = { Begun 0 };
+
+    fn default() -> Line {
+        Line::new()
+    }
+}
