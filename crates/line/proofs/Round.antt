@@ -1,16 +1,10 @@
 -- Ring arithmetic: what a line holds, read place by place.
 use Rattle.std.proofs.Common.{◌≡◌, ℕ, zero, suc, ◌+◌, ◌-◌, ◌<◌, ◌≤◌, ◌≢◌, List, [], ◌∷◌, ◌++◌, length, get_or, take, drop, set, sym, ap, ◌∙◌, ⊎_elim, arith}
 use Rattle.std.proofs.lemmas.List.{length-take, length-drop, length-append, length-set, length_push, same_lists, get_or_append_left, get_or-append_right, get_or-take, get_or-drop, get_or_push, get_or_read, get_or-set_same, get_or-set_other}
-use Rattle.std.proofs.lemmas.Bool.{cases_eq, cases_lt, eq-eqb, ne_eqb, lt-ltb, le-ltb, cond-true, cond-false}
+use Rattle.std.proofs.lemmas.Bool.{cases_lt, eq-eqb, cond-true}
 use Rattle.std.proofs.lemmas.Bool.Decides.{nat_tests}
 use Rattle.line.specs.declared.ring.Line.{Line}
 use Rattle.line.specs.Waiting.{place_at, held, start, vacant, Over, PutDone, TakeDone}
-
-place_near : (l : Line) (k : ℕ) → k < l.capacity - l.head → place_at l k ≡ l.head + k
-place_near l k h = cond-true _ _ _ (lt-ltb k (l.capacity - l.head) h)
-
-place_far : (l : Line) (k : ℕ) → l.capacity - l.head ≤ k → place_at l k ≡ k - (l.capacity - l.head)
-place_far l k h = cond-false _ _ _ (le-ltb k (l.capacity - l.head) h)
 
 place_within : (l : Line) (k : ℕ) → k < l.capacity → place_at l k < l.capacity
 place_within l k h = grind (arith, nat_tests)
@@ -35,40 +29,19 @@ module _ {X : Type 0} (l : Line) (xs : List X) (long : length xs ≡ l.capacity)
   vacant_whole : vacant l xs ≡ place_at l l.count
   vacant_whole = cond-true _ _ _ (eq-eqb (length xs) l.capacity long)
 
-  start_whole : start l xs ≡ l.head
-  start_whole = cond-true _ _ _ (eq-eqb (length xs) l.capacity long)
-
   length_held : length (held l xs) ≡ l.count
   length_held =
       ap length held_whole ∙ simp (length-take, length-drop, length-append) (omega (arith, l.starts, l.fits))
 
-  past_end : (k : ℕ) (d : X) → l.capacity - l.head ≤ k →
-      get_or (xs ++ xs) (l.head + k) d ≡ get_or xs (k - (l.capacity - l.head)) d
-  past_end k d f =
-      let e : l.head + k - l.capacity ≡ k - (l.capacity - l.head) = omega (arith, l.starts) in
-      get_or-append_right xs xs l.capacity (l.head + k) d long (omega arith) ∙ ap (λ i. get_or xs i d) e
-
   doubled : (k : ℕ) (d : X) → k < l.capacity → get_or (xs ++ xs) (l.head + k) d ≡ get_or xs (place_at l k) d
-  doubled k d h =
-      ⊎_elim
-      (λ (n : k < l.capacity - l.head). rw (place_near l k n) (get_or_append_left xs xs d (l.head + k) (omega arith)))
-      (λ (f : l.capacity - l.head ≤ k). rw (place_far l k f) (past_end k d f))
-      (cases_lt k (l.capacity - l.head))
+  doubled k d h = grind (arith, nat_tests, l.starts, get_or_append_left xs xs d (l.head + k), get_or-append_right xs xs l.capacity (l.head + k) d long)
 
   held_at : (k : ℕ) (d : X) → k < l.count → get_or (held l xs) k d ≡ get_or xs (place_at l k) d
   held_at k d h = ap (λ ys. get_or ys k d) held_whole ∙ rw (get_or-take, get_or-drop) (doubled k d (omega arith))
 
 -- What starts at the first place has the vacant one right behind it.
 pub vacant_from_first : {X : Type 0} (l : Line) (xs : List X) → start l xs ≡ 0 → length (held l xs) < length xs → vacant l xs ≡ length (held l xs)
-vacant_from_first l xs first room =
-    ⊎_elim
-    (λ (long : length xs ≡ l.capacity).
-    let begins : l.head ≡ 0 = sym (start_whole l xs long) ∙ first in
-    let many : length (held l xs) ≡ l.count = length_held l xs long in
-    omega (arith, vacant_whole l xs long, place_near l l.count (omega arith)))
-    (λ (other : length xs ≡ l.capacity → ⊥).
-    cond-false _ _ _ (ne_eqb _ _ other) ∙ sym (ap length (cond-false _ (take l.count (drop l.head (xs ++ xs))) [] (ne_eqb (length xs) l.capacity other))))
-    (cases_eq (length xs) l.capacity)
+vacant_from_first {X = X} l xs first room = grind (arith, nat_tests, l.starts, l.fits, length-take {A = X}, length-drop {A = X}, length-append {A = X})
 
 -- The slice once x is written behind all others.
 abbrev written : {X : Type 0} → Line → List X → X → List X
