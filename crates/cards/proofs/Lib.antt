@@ -1,1 +1,3 @@
 pub mod Entries
+pub mod Counted
+pub mod Measured

@@ -1,31 +1,22 @@
--- A table of zeros: no row of it is an order.
-use Rattle.std.proofs.Common.{◌≡◌, ℕ, zero, suc, ◌-◌, ◌*◌, ◌<◌, false, ltb, List, get_or, replicate, None, refl, arith}
-use Rattle.std.proofs.lemmas.Bool.{and_right, le-ltb, cond-false}
+-- A table of zeros holds no order.
+use Rattle.std.proofs.Common.{◌≡◌, ℕ, zero, suc, ◌-◌, ◌*◌, false, List, get_or, take, replicate, None, refl}
+use Rattle.std.proofs.lemmas.List.{drop-replicate}
+use Rattle.std.proofs.lemmas.Bool.{and_right, cond-false}
 use Rattle.orders.specs.Books.{within}
-use Rattle.orders.specs.Rows.{Low, High, Apart, order_at}
+use Rattle.orders.specs.Rows.{HoldsOrders, order_at}
 
 abbrev zeros : ℕ → List ℕ
 zeros n = replicate n 0
 
-get_or_zeros : (n k : ℕ) → ◌≡◌ {A = ℕ} (get_or (zeros n) k 0) 0
-get_or_zeros zero k = refl
-get_or_zeros (suc n) zero = refl
-get_or_zeros (suc n) (suc k) = get_or_zeros n k
+first_zero : (m n : ℕ) → ◌≡◌ {A = ℕ} (get_or (take m (zeros n)) 0 0) 0
+first_zero zero n = refl
+first_zero (suc m) zero = refl
+first_zero (suc m) (suc n) = refl
 
-module _ (choosers items n : ℕ) where
-  no_row : (k : ℕ) → 0 < get_or (zeros n) (k * items) 0 → ⊥
-  no_row k h = omega (arith, get_or_zeros n (k * items))
+pub zeros_order : (choosers items n k : ℕ) → order_at choosers items (zeros n) k ≡ None
+zeros_order choosers items n k =
+    rw (drop-replicate {X = ℕ} ((k - 1) * items) n 0, first_zero)
+    (cond-false _ _ _ (and_right (within k choosers) false refl))
 
-  pub zeros_low : Low choosers items (zeros n)
-  zeros_low c i h = absurd (no_row c h.2)
-
-  pub zeros_high : High choosers items (zeros n)
-  zeros_high c i h = absurd (no_row c h.2)
-
-  pub zeros_apart : Apart choosers items (zeros n)
-  zeros_apart c i j h = absurd (no_row c h.3)
-
-  pub zeros_order : (k : ℕ) → order_at choosers items (zeros n) k ≡ None
-  zeros_order k =
-      let none : ltb 0 (get_or (zeros n) ((k - 1) * items) 0) ≡ false = le-ltb 0 _ (omega (arith, get_or_zeros n ((k - 1) * items))) in
-      cond-false _ _ _ (and_right (within k choosers) _ none)
+pub zeros_held : (choosers items n : ℕ) → HoldsOrders choosers items (zeros n)
+zeros_held choosers items n k order e = let none = zeros_order choosers items n k in cc

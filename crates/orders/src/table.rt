@@ -1,7 +1,7 @@
 //! The one table that keeps orders, whatever kind of card they came from.
 
 ghost use Rattle.std.specs.Prelude.{◌≡◌, ◌*◌, ◌≤◌, length};
-ghost use Rattle.orders.specs.Rows.{Low, High, Apart};
+ghost use Rattle.orders.specs.Rows.{HoldsOrders, WithinLimits};
 
 use crate::limits::PLACES;
 
@@ -14,12 +14,7 @@ pub struct OrderTable {
     choosers: usize,
     items: usize,
     places: [u16; PLACES],
-    ghost few_choosers: { choosers ≤ 432 },
-    ghost few_items: { items ≤ 432 },
-    ghost some_items: { (1 ≤ choosers → 1 ≤ items) },
-    ghost few_places: { choosers * items ≤ 6912 },
+    ghost sizes: { WithinLimits choosers items },
     ghost long: { length places ≡ 6912 },
-    ghost low: { Low choosers items places },
-    ghost high: { High choosers items places },
-    ghost apart: { Apart choosers items places },
+    ghost orders: { HoldsOrders choosers items places },
 }

@@ -1,7 +1,8 @@
 //! The calls on the table.
 
-ghost use Rattle.std.specs.Prelude.{◌≡◌, ◌*◌, ◌≤◌, true};
+ghost use Rattle.std.specs.Prelude.{◌≡◌, true, option_copied};
 ghost use Rattle.orders.specs.Books.{Cleared, IsOrder, blank, entered, fits, place_in, within};
+ghost use Rattle.orders.specs.Rows.{WithinLimits};
 ghost use Rattle.orders.specs.Tables.{table_meaning};
 
 use super::OrderTable;
@@ -11,13 +12,13 @@ use crate::limits::{MOST, PLACES};
 fn sizes_fit(choosers: usize, items: usize) -> bool
     ensures { result ≡ fits choosers items }
 {
-    1 <= choosers && choosers <= MOST && 1 <= items && items <= MOST && choosers * items <= PLACES
+    (1..=MOST).contains(&choosers) && (1..=MOST).contains(&items) && choosers * items <= PLACES
 }
 
 impl OrderTable {
     /// A table in which nobody has an order.
     fn without_orders(choosers: usize, items: usize) -> OrderTable
-        requires { (choosers ≤ 432) × (items ≤ 432) × (1 ≤ choosers → 1 ≤ items) × (choosers * items ≤ 6912) }
+        requires { WithinLimits choosers items }
         ensures { table_meaning result ≡ blank choosers items }
     {
         OrderTable {
@@ -49,7 +50,7 @@ impl OrderTable {
     pub(crate) fn has(&self, chooser: usize) -> bool
         ensures { result ≡ within chooser self.now.choosers }
     {
-        1 <= chooser && chooser <= self.choosers
+        (1..=self.choosers).contains(&chooser)
     }
 
     pub(crate) fn clear(&mut self, choosers: usize, items: usize) -> Result<(), BookFault>
@@ -64,7 +65,8 @@ impl OrderTable {
 
     /// Makes the row the chooser's order.
     pub(crate) fn keep(&mut self, chooser: usize, row: &[u16])
-        requires { (within chooser self.old.choosers ≡ true) × IsOrder self.old.items row.now }
+        requires known { within chooser self.old.choosers ≡ true }
+        requires order { IsOrder self.old.items row.now }
         ensures { table_meaning self.new ≡ entered (table_meaning self.old) chooser row.now }
     {
         let start = (chooser - 1) * self.items;
@@ -72,16 +74,23 @@ impl OrderTable {
         self.places[start..end].copy_from_slice(row);
     }
 
-    pub(crate) fn place(&self, chooser: usize, item: usize) -> Option<u16>
-        ensures { result ≡ place_in (table_meaning self.now) chooser item }
+    /// The chooser's order, if there is one.
+    fn order(&self, chooser: usize) -> Option<&[u16]>
+        ensures { option_copied result ≡ (table_meaning self.now).order chooser }
     {
-        if !self.has(chooser) || item < 1 || item > self.items {
+        if !self.has(chooser) {
             return None;
         }
         let start = (chooser - 1) * self.items;
-        if self.places[start] == 0 {
-            return None;
-        }
-        Some(self.places[start + (item - 1)])
+        let row = &self.places[start..start + self.items];
+        // A 0 and no Option: the table's memory is fixed, and no place of an order is 0.
+        (row[0] != 0).then_some(row)
+    }
+
+    pub(crate) fn place(&self, chooser: usize, item: usize) -> Option<u16>
+        ensures { result ≡ place_in (table_meaning self.now) chooser item }
+    {
+        let index = item.checked_sub(1)?;
+        self.order(chooser)?.get(index).copied()
     }
 }
