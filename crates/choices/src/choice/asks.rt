@@ -5,7 +5,7 @@ ghost use Rattle.choices.specs.Chosen.{brews_of};
 ghost use Rattle.choices.specs.Rounds.{figures_of};
 ghost use Rattle.fair.specs.Choices.{among, Ascending, IsChoice};
 
-use crate::bits::holds;
+use crate::brew_set::BrewSet;
 use crate::choice::Choice;
 use crate::figures::Figures;
 
@@ -21,7 +21,11 @@ impl Choice {
     pub fn has(&self, brew: usize) -> bool
         ensures { result ≡ among (brews_of self.now) brew }
     {
-        holds(self.figures.brews(), self.bits, brew)
+        let set = BrewSet {
+            brews: self.figures.brews(),
+            bits: self.bits,
+        };
+        set.has(brew)
     }
 
     /// States that the brews of a choice are as many as are to be opened, each from 1 to the number of brews, and no two
