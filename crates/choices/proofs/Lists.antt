@@ -1,15 +1,15 @@
 -- The brews that a list names, gathered entry by entry.
-use Rattle.std.proofs.Common.{◌≡◌, ℕ, ◌+◌, ◌<◌, ◌≤◌, true, false, ◌||◌, List, [], ◌∷◌, ◌++◌, length, get_or, take, Ok, sym, refl, ap, ◌∙◌, subst, ⊎_elim, arith, pow_pos, below_more}
+use Rattle.std.proofs.Common.{◌≡◌, ℕ, ◌+◌, ◌<◌, ◌≤◌, true, false, ◌||◌, List, [], ◌∷◌, ◌++◌, length, get_or, take, Ok, sym, refl, ap, ◌∙◌, subst, ⊎_elim, arith, below_more}
 use Rattle.std.specs.List.{range_with_len}
 use Rattle.std.proofs.lemmas.List.{take_all, take_more}
-use Rattle.std.proofs.lemmas.Bool.{both_ways, cases_Bool, cases_eq}
+use Rattle.std.proofs.lemmas.Bool.{both_ways, cases_eq}
 use Rattle.std.proofs.lemmas.Bool.Decides.{nat_tests}
 use Rattle.orders.specs.Books.{within}
 use Rattle.fair.specs.Choices.{among, Ascending}
 use Rattle.fair.proofs.Choosing.{among_all, among_cases, among_first, among_kept, ascending_all, ascending_kept, ascending_within, below_not_among}
 use Rattle.choices.specs.declared.brew_set.BrewSet.{BrewSet}
 use Rattle.choices.specs.BrewSets.{Added, is_new, members}
-use Rattle.choices.specs.Lists.{named, Gathered, GatheredTo}
+use Rattle.choices.specs.Lists.{Gathered, GatheredTo}
 use Rattle.choices.proofs.Sets.{brews_ascending, among_outside}
 
 -- Ascending lists with the same entries are the same.

@@ -1,12 +1,12 @@
 -- Laws of the brews that a number stands for.
-use Rattle.std.proofs.Common.{◌≡◌, ℕ, zero, suc, ◌+◌, ◌-◌, ◌*◌, ◌/◌, ◌%◌, ◌^◌, ◌<◌, ◌≤◌, true, false, eqb, leb, bit_and, [], ◌∷◌, sym, refl, ap, ◌∙◌, ⊎_elim, pow-suc, arith, pow_pos, pow-add}
+use Rattle.std.proofs.Common.{◌≡◌, ℕ, zero, suc, ◌+◌, ◌-◌, ◌*◌, ◌/◌, ◌^◌, ◌<◌, ◌≤◌, true, false, eqb, leb, bit_and, [], ◌∷◌, sym, refl, ap, ◌∙◌, ⊎_elim, pow-suc, arith, pow_pos}
 use Rattle.std.specs.Int.{bit_at}
 use Rattle.std.proofs.lemmas.Nat.Bits.{bit_at_above, bit_at_cat_high, bit_at_cat_low, shr_and_one}
-use Rattle.std.proofs.lemmas.Bool.{cases_Bool, cases_eq, cond_both, cond-true, cond-false, leb-true, leb-false, le-leb, lt-leb, eq-eqb}
+use Rattle.std.proofs.lemmas.Bool.{cases_Bool, cases_eq, cond_both, cond-true, cond-false, leb-true, leb-false, le-leb, lt-leb}
 use Rattle.std.proofs.lemmas.Bool.Decides.{nat_tests}
 use Rattle.orders.specs.Books.{within}
 use Rattle.fair.specs.Choices.{among, Ascending}
-use Rattle.fair.proofs.Choosing.{among_first, ascending_lower, ascending_within, below_not_among}
+use Rattle.fair.proofs.Choosing.{ascending_lower, ascending_within, below_not_among}
 use Rattle.choices.specs.Bits.{brews_in}
 
 -- a number below 2 ^ n, with the bit for the first brew and without it

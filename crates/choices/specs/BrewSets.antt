@@ -1,5 +1,5 @@
 -- A set of a round's brews, and what it is after a brew is put in.
-use Rattle.std.specs.Prelude.{◌≡◌, ℕ, ◌+◌, Bool, true, false, not, ◌&&◌, ◌||◌, List, length, ◌==◌}
+use Rattle.std.specs.Prelude.{◌≡◌, ℕ, ◌+◌, Bool, not, ◌&&◌, ◌||◌, List, length, ◌==◌}
 use Rattle.orders.specs.Books.{within}
 use Rattle.fair.specs.Choices.{among}
 use Rattle.choices.specs.declared.brew_set.BrewSet.{BrewSet}

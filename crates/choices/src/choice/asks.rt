@@ -3,7 +3,7 @@
 ghost use Rattle.std.specs.Prelude.{◌≡◌};
 ghost use Rattle.choices.specs.Chosen.{brews_of};
 ghost use Rattle.choices.specs.Rounds.{figures_of};
-ghost use Rattle.fair.specs.Choices.{among, Ascending, IsChoice};
+ghost use Rattle.fair.specs.Choices.{among, IsChoice};
 
 use crate::brew_set::BrewSet;
 use crate::choice::Choice;
@@ -30,14 +30,8 @@ impl Choice {
 
     /// States that the brews of a choice are as many as are to be opened, each from 1 to the number of brews, and no two
     /// the same.
+    #[tactic(auto, using(crate::proofs::Sets::brews_ascending))]
     pub fn is_a_choice(&self)
         ensures { IsChoice (figures_of self.now.figures) (brews_of self.now) }
-    {
-        self.brews_ascend();
-    }
-
-    /// States that the brews stand ascending, from 1 to the number of brews at most.
-    fn brews_ascend(&self)
-        ensures { Ascending 0 self.now.figures.brews (brews_of self.now) }
     {}
 }

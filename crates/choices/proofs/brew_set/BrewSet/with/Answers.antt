@@ -1,4 +1,4 @@
-use Rattle.std.proofs.Common.{arith, refl}
+use Rattle.std.proofs.Common.{refl}
 use Rattle.choices.proofs.Adding.{added}
 use Rattle.choices.proofs.brew_set.BrewSet.with.Goals as goal
 
