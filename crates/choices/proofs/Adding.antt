@@ -1,11 +1,16 @@
 -- A brew added to the set that a number stands for.
-use Rattle.std.proofs.Common.{◌≡◌, ℕ, zero, suc, ◌+◌, ◌-◌, ◌^◌, ◌<◌, ◌≤◌, true, false, ◌||◌, eqb, leb, List, ◌∷◌, length, sym, refl, ap, ◌∙◌, subst, ⊎_elim, pow-suc, arith}
+use Rattle.std.proofs.Common.{◌≡◌, ℕ, zero, suc, ◌+◌, ◌-◌, ◌*◌, ◌%◌, ◌^◌, ◌<◌, ◌≤◌, true, false, ◌||◌, eqb, leb, bit_or, List, ◌∷◌, length, sym, refl, ap, ◌∙◌, subst, ⊎_elim, pow-suc, arith}
 use Rattle.std.proofs.lemmas.Bool.{both_ways, cases_Bool, cases_eq, leb-true, leb-false}
 use Rattle.std.proofs.lemmas.Bool.Decides.{nat_tests}
+use Rattle.std.specs.Int.{bit_at}
+use Rattle.std.proofs.lemmas.Nat.{one_shl, or_disjoint}
+use Rattle.std.proofs.lemmas.Nat.Bits.{and_pow, bit_at-lt, shr_and_one}
 use Rattle.fair.specs.Choices.{among}
 use Rattle.fair.proofs.Choosing.{among_first}
-use Rattle.choices.specs.Bits.{brews_in, Added}
-use Rattle.choices.proofs.Sets.{with_first, without_first}
+use Rattle.choices.specs.declared.brew_set.BrewSet.{BrewSet}
+use Rattle.choices.specs.Bits.{brews_in}
+use Rattle.choices.specs.BrewSets.{Added, members}
+use Rattle.choices.proofs.Sets.{among_bits, with_first, without_first}
 
 -- ys has what xs has, and c, which xs had not
 abbrev AddedTo : List ℕ → ℕ → List ℕ → Type 0
@@ -52,7 +57,24 @@ added_bits low (suc n) high bits c e inside above below new =
     (cases_eq c (low + 1)))
     (cases_Bool (leb (2 ^ n) bits))
 
-pub added : (brews bits brew : ℕ) → bits < 2 ^ brews → 0 < brew → brew ≤ brews → among (brews_in 0 brews bits) brew ≡ false → Added brews bits brew (bits + 2 ^ (brews - brew))
-added brews bits brew inside above below new =
-    let h = added_bits 0 brews brews bits brew (omega arith) inside above below new in
-    record { inside = h.0; larger = h.1.0; held = h.1.1 }
+-- the bit of a brew that a set has not is not set, so that putting it in adds it
+module _ (s : BrewSet) (brew : ℕ) (above : 0 < brew) (below : brew ≤ s.brews) (new : among (members s) brew ≡ false) where
+  abbrev place : ℕ
+  place = s.brews - brew
+
+  put_in : bit_or s.bits (1 * 2 ^ place % 2 ^ 32) ≡ s.bits + 2 ^ place
+  put_in =
+      let clear : eqb (bit_at s.bits place) 1 ≡ false = ap (λ b. eqb b 1) (sym (shr_and_one s.bits place)) ∙ sym (among_bits s.brews s.bits brew s.inside above below) ∙ new in
+      let none : bit_at s.bits place ≡ 0 = grind (arith, nat_tests, bit_at-lt s.bits place) in
+      rw (one_shl place 32 (omega (arith, s.few_brews))) (or_disjoint s.bits (2 ^ place) (and_pow s.bits place ∙ ap (λ b. b * 2 ^ place) none ∙ omega arith))
+
+  more : (s.bits + 2 ^ place < 2 ^ s.brews) × AddedTo (members s) brew (brews_in 0 s.brews (s.bits + 2 ^ place))
+  more = added_bits 0 s.brews s.brews s.bits brew (omega arith) s.inside above below new
+
+  pub insert_fits : bit_or s.bits (1 * 2 ^ (s.brews - brew) % 2 ^ 32) < 2 ^ s.brews
+  insert_fits = omega (arith, put_in, more.0)
+
+  pub added : (t : BrewSet) → t.brews ≡ s.brews → t.bits ≡ bit_or s.bits (1 * 2 ^ (s.brews - brew) % 2 ^ 32) → Added s brew t
+  added t round bits =
+      let is : members t ≡ brews_in 0 s.brews (s.bits + 2 ^ place) = cc (round, bits, put_in) in
+      record { round = round; larger = ap length is ∙ more.1.0; held = λ c. ap (λ xs. among xs c) is ∙ more.1.1 c }

@@ -1,15 +1,16 @@
 -- The brews that a list names, gathered entry by entry.
-use Rattle.std.proofs.Common.{◌≡◌, ℕ, ◌+◌, ◌<◌, ◌≤◌, true, false, ◌||◌, List, [], ◌∷◌, ◌++◌, length, get_or, take, sym, refl, ap, ◌∙◌, subst, ⊎_elim, arith, pow_pos, below_more}
+use Rattle.std.proofs.Common.{◌≡◌, ℕ, ◌+◌, ◌<◌, ◌≤◌, true, false, ◌||◌, List, [], ◌∷◌, ◌++◌, length, get_or, take, Ok, sym, refl, ap, ◌∙◌, subst, ⊎_elim, arith, below_more}
 use Rattle.std.specs.List.{range_with_len}
 use Rattle.std.proofs.lemmas.List.{take_all, take_more}
-use Rattle.std.proofs.lemmas.Bool.{both_ways, cases_Bool, cases_eq}
+use Rattle.std.proofs.lemmas.Bool.{both_ways, cases_eq}
 use Rattle.std.proofs.lemmas.Bool.Decides.{nat_tests}
 use Rattle.orders.specs.Books.{within}
 use Rattle.fair.specs.Choices.{among, Ascending}
 use Rattle.fair.proofs.Choosing.{among_all, among_cases, among_first, among_kept, ascending_all, ascending_kept, ascending_within, below_not_among}
-use Rattle.choices.specs.Bits.{brews_in, Added}
-use Rattle.choices.specs.Lists.{named, is_new, GatheredTo}
-use Rattle.choices.proofs.Sets.{none_in_zero, brews_ascending, among_outside}
+use Rattle.choices.specs.declared.brew_set.BrewSet.{BrewSet}
+use Rattle.choices.specs.BrewSets.{Added, is_new, members}
+use Rattle.choices.specs.Lists.{Gathered, GatheredTo}
+use Rattle.choices.proofs.Sets.{brews_ascending, among_outside}
 
 -- Ascending lists with the same entries are the same.
 
@@ -38,23 +39,17 @@ among-append [] ys c = refl
 among-append (x ∷ xs) ys c = let e = among-append xs ys c in grind (arith, nat_tests)
 
 module _ (brews : ℕ) (list : List ℕ) where
-  pub gathered_none : GatheredTo brews list 0 0
-  gathered_none =
-      let none = none_in_zero 0 brews in
-      record {
-        good = λ j l. absurd (omega arith);
-        inside = pow_pos brews;
-        size = ap length none;
-        held = λ c. ap (λ xs. among xs c) none;
-      }
+  pub gathered_none : (set : BrewSet) → set.brews ≡ brews → members set ≡ [] → GatheredTo brews list 0 set
+  gathered_none set round none = record { good = λ j l. absurd (omega arith); round = round; size = ap length none; held = λ c. ap (λ xs. among xs c) none }
 
-  pub gathered_more : (k bits after : ℕ) → k < length list → GatheredTo brews list k bits → is_new brews bits (get_or list k 0) ≡ true → Added brews bits (get_or list k 0) after → GatheredTo brews list (k + 1) after
-  gathered_more k bits after l so_far new more =
+  pub gathered_more : (k : ℕ) (set after : BrewSet) → k < length list → GatheredTo brews list k set → is_new set (get_or list k 0) ≡ true → Added set (get_or list k 0) after → GatheredTo brews list (k + 1) after
+  gathered_more k set after l so_far new more =
       let brew = get_or list k 0 in
       let same = so_far.held brew in
+      let is = ap (within brew) so_far.round in
       record {
         good = below_more _ k so_far.good (grind (arith, nat_tests));
-        inside = more.inside;
+        round = more.round ∙ so_far.round;
         size = more.larger ∙ ap (λ n. n + 1) so_far.size;
         held = λ c.
             let e = so_far.held c in
@@ -63,14 +58,16 @@ module _ (brews : ℕ) (list : List ℕ) where
             grind (arith, nat_tests);
       }
 
-  pub gathered_all : (bits : ℕ) → GatheredTo brews list (length list) bits → brews_in 0 brews bits ≡ named brews list
-  gathered_all bits whole =
-      ascending_same 0 brews _ _ (brews_ascending 0 brews brews bits (omega arith)) (ascending_kept (among list) 0 brews _ (ascending_all brews))
-      (λ c.
-      let e = whole.held c ∙ ap (λ xs. among xs c) (take_all (length list) list (omega arith)) in
-      let f = among_kept (among list) (range_with_len 1 brews) c in
-      let g = among_all brews c in
-      ⊎_elim
-      (λ (in' : within c brews ≡ true). grind (arith, nat_tests))
-      (λ (out : within c brews ≡ false). let z = among_outside brews bits c out in grind (arith, nat_tests))
-      (cases_Bool (within c brews)))
+  pub gathered_all : (k : ℕ) (set : BrewSet) → k ≡ length list → GatheredTo brews list k set → Gathered brews list (Ok set)
+  gathered_all k set end so_far =
+      let whole = subst (λ n. GatheredTo brews list n set) end so_far in
+      let up = subst (λ n. Ascending 0 n (members set)) whole.round (brews_ascending 0 set.brews set.brews set.bits (omega arith)) in (
+        whole,
+        ascending_same 0 brews _ _ up (ascending_kept (among list) 0 brews _ (ascending_all brews))
+            (λ c.
+            let e = whole.held c ∙ ap (λ xs. among xs c) (take_all (length list) list (omega arith)) in
+            let f = among_kept (among list) (range_with_len 1 brews) c in
+            let g = among_all brews c in
+            let out : within c brews ≡ false → among (members set) c ≡ false = λ h. among_outside set.brews set.bits c (ap (within c) whole.round ∙ h) in
+            grind (arith, nat_tests)),
+      )

@@ -1,5 +1,5 @@
 -- The choices in their order are those of the numbers, the highest first.
-use Rattle.std.proofs.Common.{◌≡◌, ℕ, zero, suc, ◌+◌, ◌-◌, ◌*◌, ◌^◌, ◌<◌, ◌≤◌, true, false, cond, eqb, List, [], ◌∷◌, ◌++◌, map, length, sym, refl, ap, ◌∙◌, ⊎_elim, suc-add, pow-suc, arith}
+use Rattle.std.proofs.Common.{◌≡◌, ℕ, zero, suc, ◌+◌, ◌-◌, ◌*◌, ◌^◌, ◌<◌, ◌≤◌, Bool, true, false, cond, eqb, List, [], ◌∷◌, ◌++◌, map, length, sym, refl, ap, ◌∙◌, ⊎_elim, suc-add, pow-suc, arith}
 use lib.Count.{ones, ones_cat, ones-ones}
 use Rattle.std.specs.List.{range_with_len}
 use Rattle.std.proofs.lemmas.Bool.{cases_Bool, cases_lt, cond-true, cond-false, ne_eqb}
@@ -37,13 +37,15 @@ abbrev listed : (ℕ → List ℕ) → ℕ → ℕ → List (List ℕ)
 listed F k zero = []
 listed F k (suc m) = cond (eqb (length (F m)) k) (F m ∷ listed F k m) (listed F k m)
 
-pub listed_map : (F : ℕ → List ℕ) (k m : ℕ) → listed F k m ≡ map F (passing (λ b. eqb (length (F b)) k) m)
-listed_map F k zero = refl
-listed_map F k (suc m) =
+pub listed_map : (F : ℕ → List ℕ) (p : ℕ → Bool) (k m : ℕ) → ((b : ℕ) → b < m → p b ≡ eqb (length (F b)) k) → listed F k m ≡ map F (passing p m)
+listed_map F p k zero same = refl
+listed_map F p k (suc m) same =
+    let here = same m (omega arith) in
+    let rest = listed_map F p k m (λ b l. same b (omega arith)) in
     ⊎_elim
-    (λ (yes : eqb (length (F m)) k ≡ true). cond-true _ _ _ yes ∙ ap (λ xs. F m ∷ xs) (listed_map F k m) ∙ ap (map F) (sym (cond-true _ _ _ yes)))
-    (λ (no : eqb (length (F m)) k ≡ false). cond-false _ _ _ no ∙ listed_map F k m ∙ ap (map F) (sym (cond-false _ _ _ no)))
-    (cases_Bool (eqb (length (F m)) k))
+    (λ (yes : p m ≡ true). cond-true _ _ _ (sym here ∙ yes) ∙ ap (λ xs. F m ∷ xs) rest ∙ ap (map F) (sym (cond-true _ _ _ yes)))
+    (λ (no : p m ≡ false). cond-false _ _ _ (sym here ∙ no) ∙ rest ∙ ap (map F) (sym (cond-false _ _ _ no)))
+    (cases_Bool (p m))
 
 listed_same : (F G : ℕ → List ℕ) (k m : ℕ) → ((b : ℕ) → b < m → F b ≡ G b) → listed F k m ≡ listed G k m
 listed_same F G k zero same = refl

@@ -1,17 +1,19 @@
 -- Where a choice stands in the order of the choices, by its number.
-use Rattle.std.proofs.Common.{◌≡◌, ℕ, zero, suc, ◌+◌, ◌-◌, ◌^◌, ◌<◌, ◌≤◌, Bool, true, false, List, [], ◌∷◌, map, length, get_or, drop, Some, None, Option, sym, refl, ap, ◌∙◌, subst, ⊎_elim, arith}
+use Rattle.std.proofs.Common.{◌≡◌, ℕ, zero, suc, ◌+◌, ◌-◌, ◌^◌, ◌<◌, ◌≤◌, Bool, true, false, cond, List, [], ◌∷◌, map, length, count_by, eqb, get_or, drop, Some, None, Option, sym, refl, ap, ◌∙◌, subst, ⊎_elim, arith}
 use Rattle.std.specs.List.{range_with_len}
 use Rattle.std.proofs.lemmas.List.{get_or-map, length-append, length-drop, length-map}
+use Rattle.std.proofs.lemmas.List.Sums.{sum_by-cons}
 use Rattle.std.proofs.lemmas.Bool.{cases_Bool, cases_eq, cond-true, cond-false, eq-eqb}
-use Rattle.fair.specs.Choices.{choices, picks}
+use Rattle.std.proofs.lemmas.Bool.Decides.{nat_tests}
+use Rattle.fair.specs.Choices.{choice_at, choices, picks}
 use Rattle.fair.proofs.Listing.{choices_listed}
 use Rattle.choices.specs.declared.choice.Choice.{Choice}
 use Rattle.choices.specs.declared.figures.Figures.{Figures}
 use Rattle.choices.specs.Bits.{brews_in}
 use Rattle.choices.specs.Chosen.{brews_of}
 use Rattle.choices.specs.Rounds.{figures_of}
-use Rattle.choices.specs.Order.{CountedFrom, FoundFirst, HighestBelow, NextOf, OrdinalOf, StandsAt, choices_below, is_choice, passing}
-use Rattle.choices.proofs.Numbered.{listed_map, picks_listed}
+use Rattle.choices.specs.Order.{choices_from, FoundFirst, HighestBelow, NextOf, StandsAt, choices_below, is_choice, passing}
+use Rattle.choices.proofs.Numbered.{length_ones, listed_map, picks_listed}
 
 -- the numbers below b are the last of those below m
 
@@ -44,6 +46,18 @@ module _ (p : ℕ → Bool) where
       (cases_Bool (p m)))
       (cases_eq b (suc m))
 
+  -- those from b on and those below b are all of them
+  pub passing_from : (n b : ℕ) → count_by p (range_with_len b n) + length (passing p b) ≡ length (passing p (b + n))
+  passing_from zero b = omega (arith, ap (λ m. length (passing p m)) {x = b} {y = b + 0} (omega arith))
+  passing_from (suc n) b =
+      let rest = passing_from n (b + 1) in
+      let here : count_by p (range_with_len b (suc n)) ≡ cond (p b) 1 0 + count_by p (range_with_len (b + 1) n) = sum_by-cons (λ x. cond (p x) 1 0) b (range_with_len (b + 1) n) in
+      let end = ap (λ m. length (passing p m)) {x = b + 1 + n} {y = b + suc n} (omega arith) in
+      ⊎_elim
+      (λ (pass : p b ≡ true). let e = ap length (passing_yes b (b + 1) (omega arith) pass) in grind (arith, nat_tests))
+      (λ (fail : p b ≡ false). let e = ap length (passing_no b (b + 1) (omega arith) fail) in grind (arith, nat_tests))
+      (cases_Bool (p b))
+
 -- what stands where a part of a list begins
 part_begins : (xs : List ℕ) (i b : ℕ) (rest : List ℕ) → drop i xs ≡ b ∷ rest → (i < length xs) × (get_or xs i 0 ≡ b) × (drop (suc i) xs ≡ rest)
 part_begins [] zero b rest e = let z : ◌≡◌ {A = ℕ} 0 1 = cc in absurd (omega arith)
@@ -67,7 +81,9 @@ module _ (f : Figures) where
   all = choices_below f (2 ^ f.brews)
 
   numbered : choices (figures_of f) ≡ map (brews_in 0 f.brews) all
-  numbered = picks_listed 0 f.brews f.opened ∙ listed_map (brews_in 0 f.brews) f.opened (2 ^ f.brews)
+  numbered =
+      picks_listed 0 f.brews f.opened
+      ∙ listed_map (brews_in 0 f.brews) (is_choice f) f.opened (2 ^ f.brews) (λ b l. ap (λ n. eqb n f.opened) (sym (length_ones 0 f.brews b l)))
 
   as_many : length (choices (figures_of f)) ≡ length all
   as_many = ap length numbered ∙ length-map all (brews_in 0 f.brews)
@@ -95,7 +111,7 @@ module _ (c : Choice) where
   here : (i : ℕ) × (i + suc (length (choices_below f c.bits)) ≡ length (all f)) × (drop i (all f) ≡ c.bits ∷ choices_below f c.bits)
   here =
       let h = last (is_choice f) (suc c.bits) (2 ^ f.brews) c.inside in
-      let e = passing_yes (is_choice f) c.bits (suc c.bits) refl (eq-eqb _ _ c.size) in
+      let e = passing_yes (is_choice f) c.bits (suc c.bits) refl (eq-eqb _ _ (sym (length_ones 0 f.brews c.bits c.inside) ∙ c.size)) in
       (h.0, omega (arith, h.1, ap length e), h.2 ∙ e)
 
   stands_here : At here.0
@@ -107,10 +123,21 @@ module _ (c : Choice) where
   behind : drop (suc here.0) (all f) ≡ choices_below f c.bits
   behind = (part_begins (all f) here.0 c.bits _ here.2).2
 
-  pub counted : (r : ℕ) → CountedFrom f c.bits r → OrdinalOf c r
-  counted r e =
-      let is : here.0 ≡ r - 1 = omega (arith, here.1) in
-      (omega (arith, here.1), subst At is stands_here)
+  -- how many have the number of a choice or a higher one is its ordinal
+  counting : choices_from f c.bits + length (choices_below f c.bits) ≡ length (all f)
+  counting = passing_from (is_choice f) (2 ^ f.brews - c.bits) c.bits ∙ ap (λ m. length (choices_below f m)) (omega arith)
+
+  pub some_counted : 0 < choices_from f c.bits
+  some_counted = omega (arith, counting, here.1)
+
+  counted : (r : ℕ) → r ≡ choices_from f c.bits → At (r - 1)
+  counted r e = let is : here.0 ≡ r - 1 = omega (arith, counting, here.1) in subst At is stands_here
+
+  pub counted_inside : (r : ℕ) → r ≡ choices_from f c.bits → r - 1 < length (choices (figures_of f))
+  counted_inside r e = (counted r e).0
+
+  pub counted_stands : (r : ℕ) → r ≡ choices_from f c.bits → choice_at (figures_of f) (r - 1) ≡ brews_of c
+  counted_stands r e = (counted r e).1
 
   pub next : (found : Option Choice) → HighestBelow f c.bits found → NextOf c found
   next (Some d) (same, below, e) =

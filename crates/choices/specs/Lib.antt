@@ -1,4 +1,5 @@
 pub mod Bits
+pub mod BrewSets
 pub mod Chosen
 pub mod Faults
 pub mod Lists

@@ -1,5 +1,5 @@
 -- What a list of the brews to open is made into or refused for.
-use Rattle.std.specs.Prelude.{◌≡◌, ℕ, ◌+◌, ◌-◌, ◌^◌, ◌<◌, Bool, true, false, not, ◌&&◌, ◌||◌, List, length, take, Ok, Err, filter, Result, slice_index}
+use Rattle.std.specs.Prelude.{◌≡◌, ℕ, ◌-◌, ◌<◌, Bool, true, false, not, ◌||◌, List, length, take, Ok, Err, filter, Result, slice_index}
 use Rattle.std.specs.List.{range_with_len}
 use Rattle.orders.specs.Books.{within}
 use Rattle.fair.specs.Choices.{among}
@@ -8,7 +8,8 @@ use Rattle.choices.specs.declared.choice.Choice.{Choice}
 use Rattle.choices.specs.declared.fault.ChoiceFault.{ChoiceFault}
 use Rattle.choices.specs.declared.fault.ChoiceFault.TheVariants.{Length, Entry}
 use Rattle.choices.specs.declared.figures.Figures.{Figures}
-use Rattle.choices.specs.Bits.{brews_in}
+use Rattle.choices.specs.declared.brew_set.BrewSet.{BrewSet}
+use Rattle.choices.specs.BrewSets.{members}
 use Rattle.choices.specs.Chosen.{brews_of}
 
 -- entry j, counted from 0, is no brew of the round, or repeats an earlier one
@@ -35,33 +36,19 @@ FromList f list (Err (Entry k)) = (length list ≡ f.opened) × FirstBad f.brews
 
 -- The steps of the reading.
 
--- a brew of the round that a set has not yet
-abbrev pub is_new : (brews bits brew : ℕ) → Bool
-is_new brews bits brew = within brew brews && not (among (brews_in 0 brews bits) brew)
-
--- a test that is passed, or failed at an entry
-abbrev pub Checked : Bool → ℕ → Result (Unit {0}) ChoiceFault → Type 0
-Checked test entry (Ok _) = test ≡ true
-Checked test entry (Err fault) = (test ≡ false) × (fault ≡ Entry entry)
-
--- the first n entries are good, and a set has the brews that they name
-pub record GatheredTo (brews : ℕ) (list : List ℕ) (n bits : ℕ) : Type 0 where
+-- the first n entries are good, and a set of so many brews has those that they name
+pub record GatheredTo (brews : ℕ) (list : List ℕ) (n : ℕ) (set : BrewSet) : Type 0 where
   pub good : NoneBad brews list n
-  pub inside : bits < 2 ^ brews
-  pub size : length (brews_in 0 brews bits) ≡ n
-  pub held : (c : ℕ) → among (brews_in 0 brews bits) c ≡ among (take n list) c
+  pub round : set.brews ≡ brews
+  pub size : length (members set) ≡ n
+  pub held : (c : ℕ) → among (members set) c ≡ among (take n list) c
 
 -- a bad entry is the first
 abbrev pub Faulty : ℕ → List ℕ → ChoiceFault → Type 0
 Faulty brews list Length = ⊥
 Faulty brews list (Entry k) = FirstBad brews list k
 
--- entry k read, counted from 0, behind entries that are good
-abbrev pub EntryAdded : ℕ → List ℕ → ℕ → Result ℕ ChoiceFault → Type 0
-EntryAdded brews list k (Ok bits) = GatheredTo brews list (k + 1) bits
-EntryAdded brews list k (Err fault) = Faulty brews list fault
-
 -- all entries read
-abbrev pub Gathered : ℕ → List ℕ → Result ℕ ChoiceFault → Type 0
-Gathered brews list (Ok bits) = (bits < 2 ^ brews) × (length (brews_in 0 brews bits) ≡ length list) × NoneBad brews list (length list) × (brews_in 0 brews bits ≡ named brews list)
+abbrev pub Gathered : ℕ → List ℕ → Result BrewSet ChoiceFault → Type 0
+Gathered brews list (Ok set) = GatheredTo brews list (length list) set × (members set ≡ named brews list)
 Gathered brews list (Err fault) = Faulty brews list fault

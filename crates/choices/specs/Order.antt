@@ -1,10 +1,10 @@
 -- The order of the choices, and of the numbers that stand for them.
-use Rattle.std.specs.Prelude.{◌≡◌, ℕ, zero, suc, ◌+◌, ◌-◌, ◌^◌, ◌<◌, ◌≤◌, Bool, cond, List, [], ◌∷◌, length, Some, None, Option, ◌==◌}
+use Rattle.std.specs.Prelude.{◌≡◌, ℕ, zero, suc, ◌+◌, ◌-◌, ◌^◌, ◌<◌, ◌≤◌, Bool, cond, List, [], ◌∷◌, length, Some, None, Option, ◌==◌, count_by, count_ones}
+use Rattle.std.specs.List.{range_with_len}
 use Rattle.fair.specs.Choices.{choices, choice_at}
 use Rattle.fair.specs.Markets.{Figures as Fair}
 use Rattle.choices.specs.declared.choice.Choice.{Choice}
 use Rattle.choices.specs.declared.figures.Figures.{Figures}
-use Rattle.choices.specs.Bits.{brews_in}
 use Rattle.choices.specs.Chosen.{brews_of}
 use Rattle.choices.specs.Rounds.{figures_of}
 
@@ -27,9 +27,9 @@ OrdinalOf c r = (1 ≤ r) × StandsAt (figures_of c.figures) (r - 1) (brews_of c
 
 -- The numbers behind the calls: the higher number is the earlier choice.
 
--- a number stands for a choice of the round
+-- a number below 2 ^ f.brews stands for a choice of the round: it has a one for each brew that is opened
 abbrev pub is_choice : Figures → ℕ → Bool
-is_choice f bits = length (brews_in 0 f.brews bits) == f.opened
+is_choice f bits = count_ones bits == f.opened
 
 -- the numbers below b that pass a test, the highest first
 abbrev pub passing : (ℕ → Bool) → ℕ → List ℕ
@@ -51,5 +51,5 @@ FoundFirst f (Some c) = FirstOf f c
 FoundFirst f None = ⊥
 
 -- how many numbers from b on stand for choices
-abbrev pub CountedFrom : Figures → ℕ → ℕ → Type 0
-CountedFrom f b r = r + length (choices_below f b) ≡ length (choices_below f (2 ^ f.brews))
+abbrev pub choices_from : Figures → ℕ → ℕ
+choices_from f b = count_by (is_choice f) (range_with_len b (2 ^ f.brews - b))

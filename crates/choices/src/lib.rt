@@ -1,7 +1,7 @@
 //! The figures of a round, and its choices of brews to open.
 #![tactic(auto)]
 
-mod bits;
+mod brew_set;
 pub mod choice;
 pub mod fault;
 pub mod figures;

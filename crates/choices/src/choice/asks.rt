@@ -3,9 +3,9 @@
 ghost use Rattle.std.specs.Prelude.{◌≡◌};
 ghost use Rattle.choices.specs.Chosen.{brews_of};
 ghost use Rattle.choices.specs.Rounds.{figures_of};
-ghost use Rattle.fair.specs.Choices.{among, Ascending, IsChoice};
+ghost use Rattle.fair.specs.Choices.{among, IsChoice};
 
-use crate::bits::holds;
+use crate::brew_set::BrewSet;
 use crate::choice::Choice;
 use crate::figures::Figures;
 
@@ -21,19 +21,17 @@ impl Choice {
     pub fn has(&self, brew: usize) -> bool
         ensures { result ≡ among (brews_of self.now) brew }
     {
-        holds(self.figures.brews(), self.bits, brew)
+        let set = BrewSet {
+            brews: self.figures.brews(),
+            bits: self.bits,
+        };
+        set.has(brew)
     }
 
     /// States that the brews of a choice are as many as are to be opened, each from 1 to the number of brews, and no two
     /// the same.
+    #[tactic(auto, using(crate::proofs::Sets::brews_ascending))]
     pub fn is_a_choice(&self)
         ensures { IsChoice (figures_of self.now.figures) (brews_of self.now) }
-    {
-        self.brews_ascend();
-    }
-
-    /// States that the brews stand ascending, from 1 to the number of brews at most.
-    fn brews_ascend(&self)
-        ensures { Ascending 0 self.now.figures.brews (brews_of self.now) }
     {}
 }

@@ -1,45 +1,23 @@
 //! Making a choice from a list.
 
-ghost use Rattle.std.specs.Prelude.{◌+◌, ◌^◌, ◌<◌, ◌≤◌, length};
-ghost use Rattle.choices.specs.Lists.{Checked, EntryAdded, FromList, Gathered, GatheredTo, is_new};
+ghost use Rattle.choices.specs.Lists.{FromList, Gathered};
 
-use crate::bits::{holds, with};
+use crate::brew_set::BrewSet;
 use crate::choice::Choice;
 use crate::fault::ChoiceFault;
 use crate::figures::Figures;
 
-/// Refuses entry k, counted from 0, where its brew is none of the round or one of the set.
-fn check_entry(brews: usize, bits: u32, brew: usize, k: usize) -> Result<(), ChoiceFault>
-    requires { (brews ≤ 16) × (bits < 2 ^ brews) × (k < 9) }
-    ensures { Checked (is_new brews bits brew) (k + 1) result }
-{
-    if brew < 1 || brew > brews || holds(brews, bits, brew) {
-        return Err(ChoiceFault::Entry { entry: k + 1 });
-    }
-    Ok(())
-}
-
-/// Adds the brew of entry k, counted from 0, behind entries that are good.
-fn add_entry(brews: usize, list: &[u8], k: usize, bits: u32) -> Result<u32, ChoiceFault>
-    requires sizes { (brews ≤ 16) × (length list.now ≤ 9) × (k < length list.now) }
-    requires before { GatheredTo brews list.now k bits }
-    ensures { EntryAdded brews list.now k result }
-{
-    let brew = list[k] as usize;
-    check_entry(brews, bits, brew, k)?;
-    Ok(with(brews, bits, brew))
-}
-
 /// The set of the brews that a list names.
-fn gather(brews: usize, list: &[u8]) -> Result<u32, ChoiceFault>
-    requires { (brews ≤ 16) × (length list.now ≤ 9) }
-    ensures { Gathered brews list.now result }
+fn gather(figures: Figures, list: &[u8]) -> Result<BrewSet, ChoiceFault>
+    ensures { Gathered figures.brews list.now result }
 {
-    let mut bits = 0;
-    for k in 0..list.len() {
-        bits = add_entry(brews, list, k, bits)?;
+    let mut set = BrewSet::new(figures.brews());
+    for (k, &brew) in list.iter().enumerate() {
+        if !set.insert(usize::from(brew)) {
+            return Err(ChoiceFault::Entry { entry: k + 1 });
+        }
     }
-    Ok(bits)
+    Ok(set)
 }
 
 impl Choice {
@@ -50,7 +28,10 @@ impl Choice {
         if list.len() != figures.opened() {
             return Err(ChoiceFault::Length);
         }
-        let bits = gather(figures.brews(), list)?;
-        Ok(Choice { figures, bits })
+        let set = gather(figures, list)?;
+        Ok(Choice {
+            figures,
+            bits: set.bits,
+        })
     }
 }

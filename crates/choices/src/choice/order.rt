@@ -1,7 +1,7 @@
 //! The order of the choices: compared brew by brew from the lowest on, as ascending lists of numbers.
 
-ghost use Rattle.std.specs.Prelude.{◌≡◌, ◌^◌, ◌<◌, ◌≤◌};
-ghost use Rattle.choices.specs.Order.{CountedFrom, FirstOf, FoundFirst, HighestBelow, is_choice, NextOf, OrdinalOf};
+ghost use Rattle.std.specs.Prelude.{◌≡◌, ◌^◌, ◌≤◌};
+ghost use Rattle.choices.specs.Order.{choices_from, FirstOf, HighestBelow, is_choice, NextOf, OrdinalOf};
 
 use crate::choice::Choice;
 use crate::figures::Figures;
@@ -15,17 +15,18 @@ fn above_all(figures: Figures) -> u32
 
 /// Whether a number stands for a choice of the round.
 fn is_choice(figures: Figures, bits: u32) -> bool
-    requires { bits < 2 ^ figures.brews }
     ensures { result ≡ is_choice figures bits }
 {
     bits.count_ones() as usize == figures.opened()
 }
 
 /// The choice with the highest number below one.
+#[tactic(auto, using(crate::proofs::Numbered::length_ones, crate::proofs::Ordinals::passing_yes, crate::proofs::Ordinals::passing_no))]
 fn highest_below(figures: Figures, bits: u32) -> Option<Choice>
     requires { bits ≤ 2 ^ figures.brews }
     ensures { HighestBelow figures bits result }
 {
+    // A loop: what `find` says of a range from behind is not proved without a function more.
     for lower in (0..bits).rev() {
         if is_choice(figures, lower) {
             return Some(Choice {
@@ -39,61 +40,35 @@ fn highest_below(figures: Figures, bits: u32) -> Option<Choice>
 
 /// How many choices have that number or a higher one.
 fn count_from(figures: Figures, bits: u32) -> usize
-    requires { bits ≤ 2 ^ figures.brews }
-    ensures { CountedFrom figures bits result }
+    ensures { result ≡ choices_from figures bits }
 {
-    let mut count = 0;
-    for higher in bits..above_all(figures) {
-        if is_choice(figures, higher) {
-            count += 1;
-        }
-    }
-    count
+    (bits..above_all(figures))
+        .filter(|&higher| is_choice(figures, higher))
+        .count()
 }
-
-/// States that the choice with the highest number is the first, and that there is one.
-fn stands_first(figures: Figures, found: &Option<Choice>)
-    requires { HighestBelow figures (2 ^ figures.brews) found.now }
-    ensures { FoundFirst figures found.now }
-{}
 
 impl Choice {
     /// The first choice of a round.
+    #[tactic(auto, using(crate::proofs::Ordinals::first))]
     pub fn first(figures: Figures) -> Choice
         ensures { FirstOf figures result }
     {
-        let found = highest_below(figures, above_all(figures));
-        stands_first(figures, &found);
-        found.unwrap()
+        highest_below(figures, above_all(figures)).unwrap()
     }
 
     /// The choice behind this one; none behind the last.
+    #[tactic(auto, using(crate::proofs::Ordinals::next))]
     pub fn next(&self) -> Option<Choice>
         ensures { NextOf self.now result }
     {
-        let found = highest_below(self.figures, self.bits);
-        self.stands_before(&found);
-        found
+        highest_below(self.figures, self.bits)
     }
 
-    /// States that the choice with the highest number below this one's is the next.
-    fn stands_before(&self, found: &Option<Choice>)
-        requires { HighestBelow self.now.figures self.now.bits found.now }
-        ensures { NextOf self.now found.now }
-    {}
-
     /// Where the choice stands in their order, counted from 1.
+    #[tactic(auto, using(crate::proofs::Ordinals::some_counted, crate::proofs::Ordinals::counted_inside, crate::proofs::Ordinals::counted_stands))]
     pub fn ordinal(&self) -> usize
         ensures { OrdinalOf self.now result }
     {
-        let count = count_from(self.figures, self.bits);
-        self.stands_at(count);
-        count
+        count_from(self.figures, self.bits)
     }
-
-    /// States that a choice's ordinal is how many have its number or a higher one.
-    fn stands_at(&self, count: usize)
-        requires { CountedFrom self.now.figures self.now.bits count }
-        ensures { OrdinalOf self.now count }
-    {}
 }

@@ -1,14 +1,11 @@
-use Rattle.std.proofs.Common.{◌≡◌, length, subst, arith}
-use Rattle.choices.specs.Lists.{GatheredTo}
-use Rattle.choices.proofs.Lists.{gathered_none, gathered_all}
+use Rattle.std.proofs.Common.{arith, rules}
+use Rattle.choices.proofs.Lists.{gathered_more, gathered_all}
 use Rattle.choices.proofs.choice.makes.gather.Goals as goal
 
-pub loop-k-init : goal.loop-k-init
-loop-k-init c = gathered_none c.args.brews c.args.list.now
+pub loop-k-preserved : goal.loop-k-preserved
+loop-k-preserved c =
+    gathered_more c.args.figures.brews c.args.list.now c.loop-k.k c.loop-k.set c.insert.new.self c.loop-k-test.true c.loop-k.invariant
+    (search rules) (search rules)
 
 pub returns : goal.returns
-returns c =
-    let list = c.args.list.now in
-    let end : c.loop-k.k ≡ length list = omega arith in
-    let all = subst (λ k. GatheredTo c.args.brews list k c.loop-k.bits) end c.loop-k.invariant in
-    (all.inside, all.size, all.good, gathered_all c.args.brews list c.loop-k.bits all)
+returns c = gathered_all c.args.figures.brews c.args.list.now c.loop-k.k c.loop-k.set (omega arith) c.loop-k.invariant
