@@ -1,5 +1,5 @@
 -- A chooser has an order exactly when it has a place for the first item.
-use Rattle.std.proofs.Common.{◌≡◌, ℕ, ◌+◌, ◌-◌, ◌<◌, ◌≤◌, Bool, true, false, cond, ◌&&◌, List, get_or, is_some, Some, None, Option, sym, refl, ap, ◌∙◌, subst, arith}
+use Rattle.std.proofs.Common.{◌≡◌, ℕ, ◌+◌, ◌-◌, ◌<◌, ◌≤◌, Bool, true, false, cond, ◌&&◌, List, get_or, is_none, is_some, Some, None, Option, sym, refl, ap, ◌∙◌, subst, Decides, arith}
 use Rattle.std.specs.Option.{option_map}
 use Rattle.std.proofs.lemmas.Bool.{and_from, both_ways, cond-true}
 use Rattle.std.proofs.lemmas.Bool.Decides.{nat_tests}
@@ -43,6 +43,14 @@ module _ (book : Meaning) where
   pub without_order : (r : Option ℕ) → FirstWithout book book.choosers r → WithoutOrder book r
   without_order (Some k) first = first
   without_order None each = all_ordered each
+
+  -- a chooser without an order is one of the book's
+  not_all : (k : ℕ) → Lowest book.choosers (Orderless book) k → AllOrdered book → ⊥
+  not_all k lowest all = not_both k (all k (grind (arith, nat_tests))) lowest.holds
+
+  pub all_ordered_decided : (r : Option ℕ) → WithoutOrder book r → Decides (is_none r) (AllOrdered book)
+  all_ordered_decided (Some k) lowest = (λ t. absurd (both_ways false refl t), λ all. absurd (not_all k lowest all))
+  all_ordered_decided None all = (λ _. all, λ _. refl)
 
   pub first_orderless : (n k : ℕ) → k < n → ((j : ℕ) → j < k → HasOrder book (j + 1)) → Orderless book (k + 1) → Lowest n (Orderless book) (k + 1)
   first_orderless n k within before lacks = lowest_number (Orderless book) n k (k + 1) refl within lacks (λ j l. not_both (j + 1) (before j l))

@@ -1,6 +1,7 @@
 //! The chooser whose order is missing.
 
-ghost use Rattle.std.specs.Prelude.{MatchBool};
+ghost use Rattle.std.specs.Prelude.{Decides, MatchBool};
+ghost use Rattle.fair.specs.FromBooks.{AllOrdered};
 ghost use Rattle.assess.specs.Missing.{FirstWithout, HasOrder, Orderless, WithoutOrder};
 
 use orders::book::OrderBook;
@@ -10,6 +11,13 @@ pub fn without_order<B: OrderBook>(book: &B) -> Option<usize>
     ensures { WithoutOrder (B.OrderBook.meaning book.now) result }
 {
     first_without(book, book.choosers())
+}
+
+/// Whether every chooser of a book has an order.
+pub(crate) fn all_ordered<B: OrderBook>(book: &B) -> bool
+    ensures { Decides result (AllOrdered (B.meaning book.now)) }
+{
+    without_order(book).is_none()
 }
 
 /// The lowest of so many first choosers that has no order.
