@@ -20,8 +20,11 @@ pub fn takers_with(figures: &Figures, allotment: &[u8]) -> [u16; BREWS]
 pub fn lowest_unfilled(figures: &Figures, allotment: &[u8]) -> Option<usize>
     ensures { (w : Market) → w.figures ≡ figures_of figures.now → LowestUnfilled w allotment.now result }
 {
-    let counts = counts(allotment, figures.brews(), figures.takers());
-    first_partly(&counts, figures.lots(), figures.brews())
+    first_partly(
+        &takers_with(figures, allotment),
+        figures.lots(),
+        figures.brews(),
+    )
 }
 
 /// How many of the first `n` entries are each of so many brews.
@@ -44,12 +47,11 @@ fn first_partly(counts: &[u16], lots: usize, n: usize) -> Option<usize>
     requires { n ≤ length counts.now }
     ensures { FirstPartly counts.now lots n result }
 {
-    for k in 0..n {
-        if is_partly(lots, counts[k] as usize) {
-            return Some(k + 1);
-        }
-    }
-    None
+    let brew = counts
+        .iter()
+        .take(n)
+        .position(|&takers| is_partly(lots, usize::from(takers)))?;
+    Some(brew + 1)
 }
 
 /// Whether so many takers are some, but not one for each lot.
