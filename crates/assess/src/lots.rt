@@ -5,7 +5,6 @@ ghost use Rattle.fair.specs.Markets.{Market};
 ghost use Rattle.choices.specs.Rounds.{figures_of};
 ghost use Rattle.assess.specs.Lots.{CountsTo, FirstPartly, LowestUnfilled, TakersCounted, partly};
 
-use crate::place::brew_of;
 use choices::figures::Figures;
 use choices::limits::BREWS;
 
@@ -20,11 +19,8 @@ pub fn takers_with(figures: &Figures, allotment: &[u8]) -> [u16; BREWS]
 pub fn lowest_unfilled(figures: &Figures, allotment: &[u8]) -> Option<usize>
     ensures { (w : Market) → w.figures ≡ figures_of figures.now → LowestUnfilled w allotment.now result }
 {
-    first_partly(
-        &takers_with(figures, allotment),
-        figures.lots(),
-        figures.brews(),
-    )
+    let counts = counts(allotment, figures.brews(), figures.takers());
+    first_partly(&counts, figures.lots(), figures.brews())
 }
 
 /// How many of the first `n` entries are each of so many brews.
@@ -33,9 +29,9 @@ fn counts(allotment: &[u8], brews: usize, n: usize) -> [u16; BREWS]
     ensures { CountsTo brews allotment.now n result }
 {
     let mut counts = [0; BREWS];
-    for taker in 0..n {
-        let brew = brew_of(allotment, taker);
-        if brew >= 1 && brew <= brews {
+    for &entry in allotment.iter().take(n) {
+        let brew = usize::from(entry);
+        if (1..=brews).contains(&brew) {
             counts[brew - 1] += 1;
         }
     }
