@@ -1,13 +1,9 @@
 -- What asking for the best fair allotment over a choice answers, and what the list holds then.
-use Rattle.std.specs.Prelude.{◌≡◌, ℕ, Bool, true, false, ◌&&◌, List, length, ◌==◌, ◌≢◌}
+use Rattle.std.specs.Prelude.{◌≡◌, ℕ, Bool, true, false, List, length, ◌≢◌}
 use Rattle.orders.specs.Books.{Meaning}
 use Rattle.fair.specs.Markets.{Figures}
 use Rattle.fair.specs.Acceptance.{deferred_acceptance}
 use Rattle.fair.specs.FromBooks.{Complete, market_of}
-
--- the books have a chooser and an item for each taker and each brew of the round
-abbrev pub sizes_fit : Figures → (takers_book brews_book : Meaning) → Bool
-sizes_fit f t b = t.choosers == f.takers && (t.items == f.brews && (b.choosers == f.brews && b.items == f.takers))
 
 -- It is written exactly when the books are complete for the figures and the list has a place for each taker.
 abbrev pub BestFairWritten : Figures → (takers_book brews_book : Meaning) → (cs before : List ℕ) → Bool → (after : List ℕ) → Type 0

@@ -1,7 +1,8 @@
 -- Counting gains, one taker more, and what the count tells.
-use Rattle.std.proofs.Common.{◌≡◌, ℕ, ◌+◌, ◌<◌, ◌≤◌, Bool, false, ltb, List, Some, None, Decides, sym, ap, ◌∙◌, subst, arith}
+use Rattle.std.proofs.Common.{◌≡◌, ℕ, ◌+◌, ◌<◌, ◌≤◌, Bool, false, ltb, List, Some, None, Option, Decides, sym, ap, ◌∙◌, subst, arith}
 use Rattle.std.proofs.lemmas.Bool.{lt-ltb, le-ltb}
 use Rattle.std.proofs.lemmas.Bool.Decides.{nat_tests}
+use Rattle.std.specs.Option.{MatchOption}
 use Rattle.tally.proofs.Tallies.{tally_more_yes, tally_more_no}
 use Rattle.orders.specs.Books.{Meaning}
 use Rattle.fair.specs.FromBooks.{market_of}
@@ -31,13 +32,13 @@ module _ (f : Figures) (takers : Meaning) (a b : List ℕ) (n : ℕ) (all : n �
   abbrev AllBooks : Bool → Type 0
   AllBooks r = (brews : Meaning) → Decides r (Better (market_of f takers brews) a b)
 
-  pub better_by_gains : (higher : ℕ) → GainsWithoutLoss takers a b n (Some higher) → AllBooks (ltb 0 higher)
-  better_by_gains higher found brews =
-      let none : gains (market_of f takers brews) b a ≡ 0 = sym (ap (gains_to takers b a) all) ∙ found.0 in
-      let is : higher ≡ gains (market_of f takers brews) a b = found.1 ∙ ap (gains_to takers a b) all in
-      decides (market_of f takers brews) a b _ (grind (arith, nat_tests))
-
-  pub not_better_by_loss : GainsWithoutLoss takers a b n None → AllBooks false
-  not_better_by_loss found brews =
-      let some : 1 ≤ gains (market_of f takers brews) b a = subst (λ k. 1 ≤ gains_to takers b a k) all found in
-      decides (market_of f takers brews) a b _ (grind (arith, nat_tests))
+  -- a test that passes at a gain and fails where one is lower
+  pub better_by_gains : (found : Option ℕ) (r : Bool) {Told : ℕ → Type 0} → GainsWithoutLoss takers a b n found → MatchOption found (r ≡ false) Told → ((higher : ℕ) → Told higher → r ≡ ltb 0 higher) → AllBooks r
+  better_by_gains (Some higher) r counts told test brews =
+      let none : gains (market_of f takers brews) b a ≡ 0 = sym (ap (gains_to takers b a) all) ∙ counts.0 in
+      let is : higher ≡ gains (market_of f takers brews) a b = counts.1 ∙ ap (gains_to takers a b) all in
+      let tested : r ≡ ltb 0 higher = test higher told in
+      decides (market_of f takers brews) a b r (grind (arith, nat_tests))
+  better_by_gains None r counts told test brews =
+      let some : 1 ≤ gains (market_of f takers brews) b a = subst (λ k. 1 ≤ gains_to takers b a k) all counts in
+      decides (market_of f takers brews) a b r (grind (arith, nat_tests))

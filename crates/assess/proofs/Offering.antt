@@ -1,5 +1,5 @@
 -- Records offered to a line one by one.
-use Rattle.std.proofs.Common.{◌≡◌, ℕ, zero, suc, ◌+◌, ◌<◌, ◌≤◌, List, [], ◌∷◌, ◌++◌, length, get_or, take, drop, set, Ok, Err, Result, sym, refl, ap, ◌∙◌, subst, add-one, arith}
+use Rattle.std.proofs.Common.{◌≡◌, ℕ, zero, suc, ◌+◌, ◌-◌, ◌<◌, ◌≤◌, List, [], ◌∷◌, ◌++◌, length, get_or, take, drop, set, Ok, Err, Result, sym, refl, ap, ◌∙◌, subst, add-one, arith}
 use Rattle.std.proofs.lemmas.List.{append_assoc, append-nil, drop_more, length-append, length-drop, length_push, length-take, set_at, take_all, take-append-le}
 use Rattle.std.proofs.lemmas.Bool.{cond_both}
 use Rattle.line.proofs.Round.{vacant_from_first}
@@ -77,10 +77,15 @@ offers_more es fs s t u xs ys zs first second before records was =
     subst (λ rs. Offered before rs u zs) (append_assoc records es fs) (second before (records ++ es) (first before records was))
 
 -- a loop's step
-pub gathers_more : (f : ℕ → List Envy) (n count r : ℕ) (s t u : Line) (xs ys zs : List Envy) → OffersAll (gathered f n) count s xs t ys → OffersAll (f n) r t ys u zs → OffersAll (gathered f (n + 1)) (count + r) s xs u zs
-gathers_more f n count r s t u xs ys zs first second =
-    rw (add-one n) (omega (arith, first.0, second.0, length-append (gathered f n) (f n)), offers_more (gathered f n) (f n) s t u xs ys zs first.1 second.1)
+pub gathers_more : {count r : ℕ} {s t u : Line} {xs ys zs : List Envy} (f : ℕ → List Envy) (n next : ℕ) → next ≡ n + 1 → OffersAll (gathered f n) count s xs t ys → OffersAll (f n) r t ys u zs → OffersAll (gathered f next) (count + r) s xs u zs
+gathers_more {s} {t} {u} {xs} {ys} {zs} f n next step first second =
+    rw (step, add-one n) (record {
+      counted = omega (arith, first.counted, second.counted, length-append (gathered f n) (f n));
+      offered = offers_more (gathered f n) (f n) s t u xs ys zs first.offered second.offered;
+    })
 
--- what is so of a count, a line and slots is so of those that they are equal to
-pub moved : (P : ℕ → Line → List Envy → Type 0) (m n : ℕ) (s t : Line) (xs ys : List Envy) → n ≡ m → t ≡ s → ys ≡ xs → P m s xs → P n t ys
-moved P m n s t xs ys count line slots h = subst (λ k. P k t ys) (sym count) (subst (λ l. P m l ys) (sym line) (subst (P m s) (sym slots) h))
+-- the step of a loop over numbers from 1
+pub gathers_next : {count r : ℕ} {s t u : Line} {xs ys zs : List Envy} (f : ℕ → List Envy) (n next : ℕ) → 1 ≤ n → next ≡ n → OffersAll (gathered (λ k. f (k + 1)) (n - 1)) count s xs t ys → OffersAll (f n) r t ys u zs → OffersAll (gathered (λ k. f (k + 1)) next) (count + r) s xs u zs
+gathers_next {r = r} {t = t} {u = u} {ys = ys} {zs = zs} f n next some step first second =
+    let here : n ≡ n - 1 + 1 = omega arith in
+    gathers_more (λ k. f (k + 1)) (n - 1) next (step ∙ here) first (subst (λ k. OffersAll (f k) r t ys u zs) here second)

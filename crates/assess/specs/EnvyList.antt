@@ -1,11 +1,9 @@
 -- The just envies of a list, one record each, and what a line holds to which they are offered.
-use Rattle.std.specs.Prelude.{◌≡◌, ℕ, zero, suc, ◌+◌, cond, ◌&&◌, List, [], ◌∷◌, ◌++◌, length, take, drop, ◌==◌}
+use Rattle.std.specs.Prelude.{◌≡◌, ℕ, zero, suc, ◌+◌, cond, List, [], ◌∷◌, ◌++◌, length, take, drop}
 use Rattle.line.specs.Waiting.{held, start}
 use Rattle.line.specs.declared.ring.Line.{Line}
-use Rattle.orders.specs.Books.{Meaning}
-use Rattle.fair.specs.Allotments.{brew_of, envies, justly_envies}
+use Rattle.fair.specs.Allotments.{envies, justly_envies}
 use Rattle.fair.specs.Markets.{Market}
-use Rattle.assess.specs.Envying.{favours_in}
 use Rattle.assess.specs.declared.envy.Envy.{Envy}
 
 -- the n lists f 0 to f (n - 1), one behind the other
@@ -17,19 +15,19 @@ gathered f (suc n) = gathered f n ++ f n
 abbrev pub envy : ℕ → ℕ → ℕ → Envy
 envy s c t = record { taker = s + 1; brew = c; rival = t + 1 }
 
+-- taker s's envy over brew c of a rival, the taker t, where it is just
+abbrev pub envy_over : Market → List ℕ → ℕ → ℕ → ℕ → List Envy
+envy_over w a s c t = cond (justly_envies w a s t c) (envy s c t ∷ []) []
+
 -- The just envies of taker s over brew c of the first n rivals, all of taker s, and all: by taker, then brew, then rival.
 abbrev pub envies_over : Market → List ℕ → ℕ → ℕ → ℕ → List Envy
-envies_over w a s c n = gathered (λ t. cond (justly_envies w a s t c) (envy s c t ∷ []) []) n
+envies_over w a s c n = gathered (envy_over w a s c) n
 
 abbrev pub envies_of : Market → List ℕ → ℕ → List Envy
 envies_of w a s = gathered (λ k. envies_over w a s (k + 1) w.figures.takers) w.figures.brews
 
 abbrev pub envy_list : Market → List ℕ → List Envy
 envy_list w a = gathered (envies_of w a) w.figures.takers
-
--- the envy of a rival that has brew c, by a taker that c ranks above it
-abbrev pub rival_over : Meaning → List ℕ → ℕ → ℕ → ℕ → List Envy
-rival_over brews_book a s c t = cond (brew_of a t == c && favours_in brews_book c s t) (envy s c t ∷ []) []
 
 -- Records were offered to an emptied line: it holds the first of them, as many as there are slots. They stand from the
 -- first slot on, and the slots behind them are as they were.
@@ -43,8 +41,9 @@ abbrev pub OffersMore : List Envy → Line → List Envy → Line → List Envy 
 OffersMore more s xs t ys = (before records : List Envy) → Offered before records s xs → Offered before (records ++ more) t ys
 
 -- So many records are offered, told by their number.
-abbrev pub OffersAll : List Envy → ℕ → Line → List Envy → Line → List Envy → Type 0
-OffersAll more count s xs t ys = (count ≡ length more) × OffersMore more s xs t ys
+pub record OffersAll (more : List Envy) (count : ℕ) (s : Line) (xs : List Envy) (t : Line) (ys : List Envy) : Type 0 where
+  pub counted : count ≡ length more
+  pub offered : OffersMore more s xs t ys
 
 -- All just envies are counted and offered to an emptied line.
 pub record EnviesTold (w : Market) (a : List ℕ) (before : List Envy) (count : ℕ) (line : Line) (slots : List Envy) : Type 0 where

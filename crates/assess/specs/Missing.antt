@@ -1,5 +1,5 @@
 -- The search for a chooser without an order.
-use Rattle.std.specs.Prelude.{◌≡◌, ℕ, ◌+◌, ◌<◌, List, Some, None, Option}
+use Rattle.std.specs.Prelude.{◌≡◌, ℕ, List, Some, None, Option}
 use Rattle.orders.specs.Books.{Meaning}
 use Rattle.fair.specs.FromBooks.{AllOrdered}
 use Rattle.fair.specs.Proposals.{Lowest}
@@ -9,11 +9,6 @@ HasOrder book k = (places : List ℕ) × (book.order k ≡ Some places)
 
 abbrev pub Orderless : Meaning → ℕ → Type 0
 Orderless book k = book.order k ≡ None
-
--- The lowest of the choosers 1 to n without an order, or none where each has one.
-abbrev pub FirstWithout : Meaning → ℕ → Option ℕ → Type 0
-FirstWithout book n (Some k) = Lowest n (Orderless book) k
-FirstWithout book n None = (j : ℕ) → j < n → HasOrder book (j + 1)
 
 -- The lowest chooser of the book without an order, or none where every chooser has one.
 abbrev pub WithoutOrder : Meaning → Option ℕ → Type 0

@@ -14,19 +14,17 @@ use std::cmp::Ordering;
 
 /// Whether `a` is better than `b` for the takers: none ranks its brew in `a` lower, and one at least ranks it higher.
 pub fn is_better<T: OrderBook>(figures: &Figures, takers: &T, a: &[u8], b: &[u8]) -> bool
-    ensures { (brews : Meaning) → Decides result (Better (market_of (figures_of figures.now) (T.OrderBook.meaning takers.now) brews) a.now b.now) }
+    ensures { (brews : Meaning) → Decides result (Better (market_of (figures_of figures.now) (T.meaning takers.now) brews) a.now b.now) }
 {
-    match gains(takers, a, b, figures.takers()) {
-        Some(higher) => higher > 0,
-        None => false,
-    }
+    gains(takers, a, b, figures.takers()).is_some_and(|higher| higher > 0)
 }
 
 /// How many of the first `n` takers rank their brew in `a` higher than in `b`; none where one ranks it lower.
 fn gains<T: OrderBook>(takers: &T, a: &[u8], b: &[u8], n: usize) -> Option<usize>
-    ensures { GainsWithoutLoss (T.OrderBook.meaning takers.now) a.now b.now n result }
+    ensures { GainsWithoutLoss (T.meaning takers.now) a.now b.now n result }
 {
     let mut higher = 0;
+    // A range: the lists may be shorter than the takers.
     for taker in 0..n {
         match standing(takers, a, b, taker) {
             Ordering::Less => higher += 1,
@@ -40,7 +38,7 @@ fn gains<T: OrderBook>(takers: &T, a: &[u8], b: &[u8], n: usize) -> Option<usize
 /// How the place of a taker's brew in `a` compares with that of its brew in `b`.
 fn standing<T: OrderBook>(takers: &T, a: &[u8], b: &[u8], taker: usize) -> Ordering
     requires { taker + 1 < 2 ^ 64 }
-    ensures { Stands (T.OrderBook.meaning takers.now) a.now b.now taker result }
+    ensures { Stands (T.meaning takers.now) a.now b.now taker result }
 {
     let in_a = place_in(takers, taker + 1, brew_of(a, taker));
     let in_b = place_in(takers, taker + 1, brew_of(b, taker));

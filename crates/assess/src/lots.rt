@@ -5,7 +5,6 @@ ghost use Rattle.fair.specs.Markets.{Market};
 ghost use Rattle.choices.specs.Rounds.{figures_of};
 ghost use Rattle.assess.specs.Lots.{CountsTo, FirstPartly, LowestUnfilled, TakersCounted, partly};
 
-use crate::place::brew_of;
 use choices::figures::Figures;
 use choices::limits::BREWS;
 
@@ -30,9 +29,9 @@ fn counts(allotment: &[u8], brews: usize, n: usize) -> [u16; BREWS]
     ensures { CountsTo brews allotment.now n result }
 {
     let mut counts = [0; BREWS];
-    for taker in 0..n {
-        let brew = brew_of(allotment, taker);
-        if brew >= 1 && brew <= brews {
+    for &entry in allotment.iter().take(n) {
+        let brew = usize::from(entry);
+        if (1..=brews).contains(&brew) {
             counts[brew - 1] += 1;
         }
     }
@@ -44,12 +43,11 @@ fn first_partly(counts: &[u16], lots: usize, n: usize) -> Option<usize>
     requires { n ≤ length counts.now }
     ensures { FirstPartly counts.now lots n result }
 {
-    for k in 0..n {
-        if is_partly(lots, counts[k] as usize) {
-            return Some(k + 1);
-        }
-    }
-    None
+    let brew = counts
+        .iter()
+        .take(n)
+        .position(|&takers| is_partly(lots, usize::from(takers)))?;
+    Some(brew + 1)
 }
 
 /// Whether so many takers are some, but not one for each lot.

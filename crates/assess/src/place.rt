@@ -3,6 +3,7 @@
 ghost use Rattle.std.specs.Prelude.{◌≡◌, slice_index};
 ghost use Rattle.std.specs.Option.{unwrap_or};
 ghost use Rattle.orders.specs.Books.{place_in};
+ghost use Rattle.assess.specs.Envying.{ranks_above};
 
 use orders::book::OrderBook;
 
@@ -10,19 +11,19 @@ use orders::book::OrderBook;
 pub(crate) fn brew_of(allotment: &[u8], taker: usize) -> usize
     ensures { result ≡ slice_index allotment.now taker }
 {
-    if taker < allotment.len() {
-        allotment[taker] as usize
-    } else {
-        0
-    }
+    allotment.get(taker).map_or(0, |&brew| usize::from(brew))
 }
 
 /// The place of an item with a chooser; 0 where it has none.
 pub fn place_in<B: OrderBook>(book: &B, chooser: usize, item: usize) -> u16
-    ensures { result ≡ unwrap_or (place_in (B.OrderBook.meaning book.now) chooser item) 0 }
+    ensures { result ≡ unwrap_or (place_in (B.meaning book.now) chooser item) 0 }
 {
-    match book.place(chooser, item) {
-        Some(place) => place,
-        None => 0,
-    }
+    book.place(chooser, item).unwrap_or(0)
+}
+
+/// Whether a chooser ranks one item above another.
+pub(crate) fn ranks_above<B: OrderBook>(book: &B, chooser: usize, item: usize, other: usize) -> bool
+    ensures { result ≡ ranks_above (B.meaning book.now) chooser item other }
+{
+    place_in(book, chooser, item) < place_in(book, chooser, other)
 }

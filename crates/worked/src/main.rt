@@ -9,7 +9,8 @@ use crate::rounds::{
 };
 use crate::text::{envy_text, numbers};
 use anyhow::anyhow;
-use assess::envy::{Envy, envies, lowest_envious};
+use assess::envy::Envy;
+use assess::market::Market;
 use cards::points::Points;
 use cards::written_list::WrittenList;
 use choices::choice::Choice;
@@ -59,9 +60,7 @@ fn print_choices<T: OrderBook, B: OrderBook>(
 /// Prints the just envies of an allotment, as many as there is room for, and the lowest taker with one.
 fn print_envies<T: OrderBook, B: OrderBook>(
     rt: &HostRuntime,
-    figures: &Figures,
-    takers: &T,
-    brews: &B,
+    market: &Market<'_, '_, T, B>,
     allotment: &[u8],
 ) -> anyhow::Result<()> {
     rt.println(numbers(rt.alloc(), "allotment", allotment)?.as_str())?;
@@ -71,7 +70,7 @@ fn print_envies<T: OrderBook, B: OrderBook>(
         brew: 0,
         rival: 0,
     }; 16];
-    let count = envies(figures, takers, brews, allotment, &mut line, &mut slots);
+    let count = market.envies(allotment, &mut line, &mut slots);
     println!(rt; "envies {count}")?;
     for _ in 0..slots.len() {
         let Some(envy) = line.take(&slots) else {
@@ -79,7 +78,7 @@ fn print_envies<T: OrderBook, B: OrderBook>(
         };
         rt.println(envy_text(rt.alloc(), &envy)?.as_str())?;
     }
-    match lowest_envious(figures, takers, brews, allotment) {
+    match market.lowest_envious(allotment) {
         Some(taker) => println!(rt; "lowest taker {taker}")?,
         None => rt.println("nobody envies")?,
     }
@@ -112,7 +111,12 @@ fn print_three_brews(rt: &HostRuntime) -> anyhow::Result<()> {
     entered(fill(&mut brews, 3, 6, &THREE_OTHERS))?;
     let figures = figures(3, 3, 2)?;
     print_choices(rt, figures, &takers, &brews)?;
-    print_envies(rt, &figures, &takers, &brews, &BY_HAND)
+    let market = Market {
+        figures,
+        takers: &takers,
+        brews: &brews,
+    };
+    print_envies(rt, &market, &BY_HAND)
 }
 
 fn run(rt: &HostRuntime) -> anyhow::Result<()> {

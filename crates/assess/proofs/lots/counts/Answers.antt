@@ -1,29 +1,27 @@
-use Rattle.std.proofs.Common.{ℕ, ◌+◌, ◌≤◌, List, sym, subst, arith}
-use Rattle.assess.specs.Lots.{CountsTo}
-use Rattle.assess.proofs.Counting.{count_le, counted, not_counted}
+use Rattle.std.proofs.Common.{arith}
+use Rattle.std.proofs.lemmas.Grind.{common_steps}
+use Rattle.std.proofs.lemmas.Iterator.{YieldsList-from_slice, YieldsList-from_take}
+use Rattle.std.proofs.lemmas.Iterator.Consumers.{YieldsList-turn, YieldsList-end}
+use Rattle.std.proofs.lemmas.List.{length_push}
+use Rattle.assess.proofs.Counting.{all_counted, count_le, counted, next_entry, not_counted}
 use Rattle.assess.proofs.lots.counts.Goals as goal
-use Rattle.assess.proofs.lots.counts.Goals.{then-brew-ge1+then-brew-brews, else-brew-ge1, else-brew-ge1-via-then-brew-ge1+else-brew-brews, else-brew-ge1-via-else-brew-ge1}
 
 pub overflow_add-counts : goal.overflow_add-counts
 overflow_add-counts c =
-    omega (arith, count_le c.args.brews c.args.allotment.now c.loop-taker.taker c.loop-taker.counts c.loop-taker.invariant c.requires.0 c.brew_of-brew.result c.if-brew-ge1.true c.if-brew-brews.true)
+    let entry = next_entry _ _ _ _ (YieldsList-turn (YieldsList-from_take c.args.n (YieldsList-from_slice c.args.allotment.now cc) cc) c.loop-entry.yielded _ c.loop-entry.yielded_by _ _ c.in-Some.field-0 c.in-Some.is c.next.ensures.steps) in
+    omega (arith, entry.0, count_le c.args.brews c.args.allotment.now _ c.loop-entry.counts c.loop-entry.invariant c.requires.0 c.from-brew.result (grind (arith, common_steps)) (grind (arith, common_steps)))
 
-pub loop-taker-preserved : goal.loop-taker-preserved
-loop-taker-preserved c =
-    let brews = c.args.brews in
-    let a = c.args.allotment.now in
-    let n = c.loop-taker.taker in
-    let counts = c.loop-taker.counts in
-    let brew = c.brew_of-brew.result in
-    let After : List ℕ → Type 0 = λ (after : List ℕ). CountsTo brews a (n + 1) after in
-    elim c.if-brew-ge1.branch [
-      | then-brew-ge1+then-brew-brews w ↦
-          subst After (sym w.counts-is) (counted brews a n counts c.loop-taker.invariant c.requires.0 brew (sym c.brew_of-brew.ensures) w.if-brew-ge1.true w.if-brew-brews.true)
-      | else-brew-ge1 w ↦
-          let none : 1 ≤ brew → brew ≤ brews → ⊥ =
-          λ low high. elim w.else-brew-ge1.branch [
-            | else-brew-ge1-via-then-brew-ge1+else-brew-brews v ↦ omega (arith, v.if-brew-brews.false)
-            | else-brew-ge1-via-else-brew-ge1 v ↦ omega (arith, v.if-brew-ge1.false)
-          ] in
-          subst After (sym w.counts-is) (not_counted brews a n counts c.loop-taker.invariant c.requires.0 brew (sym c.brew_of-brew.ensures) none)
-    ]
+pub loop-entry-preserved-then-contains : goal.loop-entry-preserved-then-contains
+loop-entry-preserved-then-contains c =
+    let entry = next_entry _ _ _ _ (YieldsList-turn (YieldsList-from_take c.args.n (YieldsList-from_slice c.args.allotment.now cc) cc) c.loop-entry.yielded _ c.loop-entry.yielded_by _ _ c.in-Some.field-0 c.in-Some.is c.next.ensures.steps) in
+    counted c.args.brews c.args.allotment.now _ c.loop-entry.counts c.loop-entry.invariant c.requires.0 c.from-brew.result _ (omega (arith, entry.1)) (grind (arith, common_steps)) (grind (arith, common_steps)) (length_push c.loop-entry.yielded c.in-Some.field-0)
+
+pub loop-entry-preserved : goal.loop-entry-preserved
+loop-entry-preserved c =
+    let entry = next_entry _ _ _ _ (YieldsList-turn (YieldsList-from_take c.args.n (YieldsList-from_slice c.args.allotment.now cc) cc) c.loop-entry.yielded _ c.loop-entry.yielded_by _ _ c.in-Some.field-0 c.in-Some.is c.next.ensures.steps) in
+    not_counted c.args.brews c.args.allotment.now _ c.loop-entry.counts c.loop-entry.invariant c.requires.0 c.from-brew.result _ (omega (arith, entry.1)) (λ low high. grind (arith, common_steps)) (length_push c.loop-entry.yielded c.in-Some.field-0)
+
+pub returns : goal.returns
+returns c =
+    let t = YieldsList-end (YieldsList-from_take c.args.n (YieldsList-from_slice c.args.allotment.now cc) cc) c.loop-entry.yielded _ c.loop-entry.yielded_by _ _ c.in-None.is c.next.ensures.steps in
+    all_counted c.args.brews c.args.allotment.now c.args.n _ c.loop-entry.counts t.1 c.loop-entry.invariant

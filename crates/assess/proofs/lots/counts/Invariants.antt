@@ -1,5 +1,6 @@
+use Rattle.std.proofs.Common.{length}
 use Rattle.assess.specs.Lots.{CountsTo}
 use Rattle.assess.proofs.lots.counts.Given as goal
 
-abbrev pub invariant-loop-taker : goal.invariant-loop-taker
-invariant-loop-taker l = CountsTo l.brews l.allotment l.taker l.counts
+abbrev pub invariant-loop-entry : goal.invariant-loop-entry
+invariant-loop-entry l = CountsTo l.brews l.allotment (length l.yielded) l.counts

@@ -1,6 +1,7 @@
 use Rattle.std.proofs.Common.{sym, arith, below_more}
-use Rattle.assess.proofs.Rivals.{first_envious}
-use Rattle.assess.proofs.envy.first_envious.Goals as goal
+use Rattle.assess.specs.Markets.{market_in}
+use Rattle.assess.proofs.Rivals.{lowest_envious}
+use Rattle.assess.proofs.market.Market.lowest_envious.Goals as goal
 
 pub loop-rival-preserved : goal.loop-rival-preserved
 loop-rival-preserved g c = (c.loop-rival.invariant.0, below_more _ _ c.loop-rival.invariant.1 (sym c.if-envies_rival.ensures))
@@ -10,5 +11,5 @@ takers-preserved g c = (c.loop-rival.invariant.0, below_more _ _ c.takers.invari
 
 pub returns-then-envies_rival : goal.returns-then-envies_rival
 returns-then-envies_rival g c =
-    first_envious (g.T.OrderBook.meaning c.args.takers.now) (g.B.OrderBook.meaning c.args.brews.now) c.args.allotment.now c.args.n
-    c.takers.taker c.loop-rival.rival c.number.result c.number.ensures (omega arith) (omega arith) (sym c.if-envies_rival.ensures) c.takers.invariant.1
+    lowest_envious (market_in g.T.OrderBook.meaning g.B.OrderBook.meaning c.args.self.now) c.args.allotment.now c.takers.taker c.loop-rival.rival
+    c.number.result c.number.ensures (omega arith) (omega arith) (sym c.if-envies_rival.ensures) (λ j l t m. c.takers.invariant.1 j l t (omega arith))
