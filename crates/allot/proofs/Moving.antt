@@ -7,7 +7,7 @@ use Rattle.std.proofs.Math.ListN.{get_or-map}
 use Rattle.std.proofs.Math.Seq.{map-set_same}
 use Rattle.std.specs.Option.{IsSome, is_some}
 use Rattle.std.proofs.lemmas.List.{map-id, map-set, length-replicate, get_or-replicate, get_or-set_same, get_or-set_other}
-use Rattle.std.proofs.lemmas.Bool.{cases_lt, and_parts, leb-true}
+use Rattle.std.proofs.lemmas.Bool.{cases_lt, both_ways, and_parts, leb-true}
 use Rattle.orders.specs.Books.{Meaning}
 use Rattle.orders.specs.declared.book.OrderBook.{Ghosts}
 use Rattle.fair.specs.Markets.{Market, SoundMarket, IsBrew}
@@ -68,6 +68,12 @@ module _ {T B : Type 0} {ts : Ghosts T} {bs : Ghosts B} (o : Opening T B ts bs) 
       let item : t < b.items = omega (arith, o.complete.of_takers) in
       let is : place_of b (c - 1 + 1) (t + 1) ≡ place_of b c (t + 1) = ap (λ k. place_of b k (t + 1)) back in
       (omega (arith, place_low b (brews_sound o) o.complete.brews_ordered (c - 1) chooser t item), omega (arith, place_high b (brews_sound o) o.complete.brews_ordered (c - 1) chooser t item, o.complete.of_takers))
+
+  -- going towards the front, past a taker that is not held
+  pub none_nearer : (a : List ℕ) (waiting : List Bool) (c places p r : ℕ) → IsBrew w c → AtPlace w c (p - 1) r → holds a waiting c r ≡ false → NoneBehind w a waiting c places p → NoneBehind w a waiting c places (p - 1)
+  none_nearer a waiting c places p r brew here unheld none t l h near =
+      let apart : w.taker_place c t ≡ w.taker_place c r → ⊥ = λ e. both_ways _ unheld (subst (λ k. holds a waiting c k ≡ true) (sound.takers_apart c t r brew l here.taker e) h) in
+      omega (arith, none t l h near, here.there)
 
   -- the first in line, and the brew where it stands
   module _ (a : List ℕ) (run : Run) (s : ℕ) {rest : List ℕ} (state : State o a run (s ∷ rest)) where
