@@ -1,5 +1,6 @@
 -- The next brew of a choice in a taker's order, found by going through its row of the table.
-use Rattle.std.proofs.Common.{◌≡◌, ℕ, zero, suc, ◌+◌, ◌-◌, ◌*◌, ◌<◌, ◌≤◌, true, List, get_or, sym, subst, ⊎_elim, arith}
+use Rattle.std.proofs.Common.{◌≡◌, ℕ, ◌+◌, ◌-◌, ◌*◌, ◌<◌, ◌≤◌, true, false, List, length, get_or, Some, None, Option, MatchOption, refl, sym, ap, ◌∙◌, subst, ⊎_elim, arith}
+use Rattle.std.specs.List.{AllWithin, HoldsAt}
 use Rattle.std.proofs.lemmas.Bool.{cases_lt, both_ways, and_parts, leb-true}
 use Rattle.orders.specs.Books.{Meaning, Sound, within}
 use Rattle.fair.specs.Markets.{Figures, Market}
@@ -7,23 +8,18 @@ use Rattle.fair.specs.Choices.{among, IsChoice}
 use Rattle.fair.specs.FromBooks.{market_of, Complete}
 use Rattle.fair.proofs.Choosing.{choice_within}
 use Rattle.fair.proofs.Favourites.{IsFavourite, IsNext}
-use Rattle.acceptance.specs.Rankings.{place_of, Ranks, PassedOver, NextAfter}
+use Rattle.acceptance.specs.Rankings.{place_of, Ranks, NextAfter}
 use Rattle.acceptance.proofs.Ranking.{place_low, place_high, place_apart}
 
-next_after : (w : Market) (s : ℕ) (cs : List ℕ) (place d : ℕ) → 1 ≤ d → among cs d ≡ true → place < w.brew_place s d
-    → ((e : ℕ) → among cs e ≡ true → place < w.brew_place s e → w.brew_place s d ≤ w.brew_place s e) → NextAfter w s cs place d
-next_after w s cs place zero some listed below none_between = absurd (omega arith)
-next_after w s cs place (suc d) some listed below none_between = (listed, below, none_between)
-
 -- behind the place of the brew where the taker stands, if there is a next one
-pub next_is : (w : Market) (s : ℕ) (cs : List ℕ) (c d : ℕ) → NextAfter w s cs (w.brew_place s c) d → ((n : ℕ) × IsNext w s cs c n) → IsNext w s cs c d
-next_is w s cs c zero none (n, next) = absurd (omega (arith, none n next.listed, next.below))
-next_is w s cs c (suc d) (listed, below, none_between) some = record { listed = listed; below = below; none_between = none_between }
+pub next_is : (w : Market) (s : ℕ) (cs : List ℕ) (c : ℕ) (r : Option ℕ) → NextAfter w s cs (w.brew_place s c) r → ((n : ℕ) × IsNext w s cs c n) → (d : ℕ) × (r ≡ Some d) × IsNext w s cs c d
+next_is w s cs c None none (n, next) = absurd (omega (arith, none n next.listed, next.below))
+next_is w s cs c (Some d) (listed, below, none_between) some = (d, refl, record { listed = listed; below = below; none_between = none_between })
 
 -- from the front, where there is a brew with a place
-pub favourite_is : (w : Market) (s : ℕ) (cs : List ℕ) (c d : ℕ) → NextAfter w s cs 0 d → among cs c ≡ true → ((e : ℕ) → among cs e ≡ true → 1 ≤ w.brew_place s e) → IsFavourite w s cs d
-favourite_is w s cs c zero none listed placed = absurd (omega (arith, none c listed, placed c listed))
-favourite_is w s cs c (suc d) (here, below, none_between) listed placed = record { listed = here; highest = λ e t. none_between e t (placed e t) }
+pub favourite_is : (w : Market) (s : ℕ) (cs : List ℕ) (c : ℕ) (r : Option ℕ) → NextAfter w s cs 0 r → among cs c ≡ true → ((e : ℕ) → among cs e ≡ true → 1 ≤ w.brew_place s e) → (d : ℕ) × (r ≡ Some d) × IsFavourite w s cs d
+favourite_is w s cs c None none listed placed = absurd (omega (arith, none c listed, placed c listed))
+favourite_is w s cs c (Some d) (here, below, none_between) listed placed = (d, refl, record { listed = here; highest = λ e t. none_between e t (placed e t) })
 
 module _ (f : Figures) (t b : Meaning) (sound : Sound t) (complete : Complete f t b) (cs : List ℕ) (choice : IsChoice f cs) (s : ℕ) (l : s < f.takers) where
   chooser : s < t.choosers
@@ -41,7 +37,7 @@ module _ (f : Figures) (t b : Meaning) (sound : Sound t) (complete : Complete f 
   pub placed : (e : ℕ) → among cs e ≡ true → 1 ≤ place_of t (s + 1) e
   placed e h = by_index (λ x. 1 ≤ place_of t (s + 1) x) (place_low t sound complete.takers_ordered s chooser) e (bounds e h).0 (bounds e h).1
 
-  place_within : (e : ℕ) → among cs e ≡ true → place_of t (s + 1) e ≤ t.items
+  pub place_within : (e : ℕ) → among cs e ≡ true → place_of t (s + 1) e ≤ t.items
   place_within e h = by_index (λ x. place_of t (s + 1) x ≤ t.items) (place_high t sound complete.takers_ordered s chooser) e (bounds e h).0 (bounds e h).1
 
   same_place : (x e : ℕ) → within x t.items ≡ true → among cs e ≡ true → place_of t (s + 1) x ≡ place_of t (s + 1) e → x ≡ e
@@ -56,8 +52,9 @@ module _ (f : Figures) (t b : Meaning) (sound : Sound t) (complete : Complete f 
     abbrev entry : ℕ → ℕ
     entry p = get_or table (s * t.items + p) 0
 
+    -- no brew of the choice stands from the given place up to another
     abbrev Passed : ℕ → Type 0
-    Passed = PassedOver t cs s table from
+    Passed to = (i : ℕ) → from ≤ i → i < to → among cs (entry i) ≡ false
 
     farther : (p : ℕ) → p ≤ t.items → Passed p → (e : ℕ) → among cs e ≡ true → from < place_of t (s + 1) e → p < place_of t (s + 1) e
     farther p high passed e h behind =
@@ -72,14 +69,26 @@ module _ (f : Figures) (t b : Meaning) (sound : Sound t) (complete : Complete f 
     abbrev w : Market
     w = market_of f t b
 
-    pub found : (p : ℕ) → from ≤ p → p < t.items → Passed p → among cs (entry p) ≡ true → NextAfter w s cs from (entry p)
-    found p behind high passed listed =
+    found : (p d : ℕ) → from ≤ p → p < t.items → Passed p → entry p ≡ d → among cs d ≡ true → NextAfter w s cs from (Some d)
+    found p d behind high passed is listed =
         let stands = ranks s p chooser high in
-        next_after w s cs from (entry p) (bounds (entry p) listed).0 listed (omega (arith, stands.1))
-        (λ e h m. omega (arith, stands.1, farther p (omega arith) passed e h m))
+        let at : place_of t (s + 1) d ≡ p + 1 = ap (place_of t (s + 1)) (sym is) ∙ stands.1 in
+        (listed, omega arith, λ e h m. omega (arith, farther p (omega arith) passed e h m))
 
-    pub exhausted : Passed t.items → NextAfter w s cs from 0
+    exhausted : Passed t.items → NextAfter w s cs from None
     exhausted passed e h =
         ⊎_elim (λ (behind : from < place_of t (s + 1) e). absurd (omega (arith, farther t.items (omega arith) passed e h behind, place_within e h)))
         (λ (front : place_of t (s + 1) e ≤ from). front)
         (cases_lt from (place_of t (s + 1) e))
+
+    -- going through the rest of the row
+    module _ (rest : List ℕ) (each : length rest + from ≡ t.items) (same : (i : ℕ) → i < length rest → get_or rest i 0 ≡ entry (from + i)) where
+      passed_to : (k : ℕ) → k ≤ length rest → AllWithin (λ d. among cs d ≡ false) rest 0 k → Passed (from + k)
+      passed_to k within none i behind before =
+          let at : get_or rest (i - from) 0 ≡ entry i = same (i - from) (omega arith) ∙ ap entry (omega arith) in
+          subst (λ d. among cs d ≡ false) at (none (i - from) 0 (omega arith) (omega arith))
+
+      pub next_found : (r : Option ℕ) → MatchOption r (AllWithin (λ d. among cs d ≡ false) rest 0 (length rest))
+          (λ d. (among cs d ≡ true) × (i : ℕ) × (i < length rest) × HoldsAt (λ x. x ≡ d) rest i × AllWithin (λ x. among cs x ≡ false) rest 0 i) → NextAfter w s cs from r
+      next_found None none = exhausted (λ i behind before. passed_to (length rest) (omega arith) none i behind (omega arith))
+      next_found (Some d) (listed, i, l, here, none) = found (from + i) d (omega arith) (omega arith) (passed_to i (omega arith) none) (sym (same i l) ∙ here 0) listed

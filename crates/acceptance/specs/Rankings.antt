@@ -1,6 +1,6 @@
 -- Who stands at each place of the orders of a book, as a table with a row for each chooser: what stands at place p + 1
 -- of the order of chooser k + 1 is found at k * items + p.
-use Rattle.std.specs.Prelude.{◌≡◌, ℕ, zero, suc, ◌+◌, ◌-◌, ◌*◌, ◌<◌, ◌≤◌, true, false, List, length, slice_index}
+use Rattle.std.specs.Prelude.{◌≡◌, ℕ, ◌+◌, ◌-◌, ◌*◌, ◌<◌, ◌≤◌, true, List, Some, None, Option, length, slice_index, slice_range}
 use Rattle.std.specs.Option.{unwrap_or}
 use Rattle.orders.specs.Books.{Meaning, place_in, within}
 use Rattle.fair.specs.Markets.{Market}
@@ -24,11 +24,11 @@ pub record RankedTo (book : Meaning) (k x : ℕ) (table : List ℕ) : Type 0 whe
   pub rows : (j y : ℕ) → j < k → y < book.items → slice_index table (spot book j y) ≡ y + 1
   pub row : (y : ℕ) → y < x → slice_index table (spot book k y) ≡ y + 1
 
--- No brew of the list stands from one place of the order of taker s, counted from 0, up to another.
-abbrev pub PassedOver : Meaning → List ℕ → ℕ → List ℕ → ℕ → ℕ → Type 0
-PassedOver book cs s table from to = (i : ℕ) → from ≤ i → i < to → among cs (slice_index table (s * book.items + i)) ≡ false
+-- the order of chooser k + 1 in the table
+abbrev pub row_of : Meaning → List ℕ → ℕ → List ℕ
+row_of book table k = slice_range table (k * book.items) (k * book.items + book.items)
 
--- Brew d is the first of the list behind the given place in the order of taker s; 0 where none is.
-abbrev pub NextAfter : Market → ℕ → List ℕ → ℕ → ℕ → Type 0
-NextAfter w s cs place zero = (e : ℕ) → among cs e ≡ true → w.brew_place s e ≤ place
-NextAfter w s cs place (suc d) = (among cs (suc d) ≡ true) × (place < w.brew_place s (suc d)) × ((e : ℕ) → among cs e ≡ true → place < w.brew_place s e → w.brew_place s (suc d) ≤ w.brew_place s e)
+-- Brew d is the first of the list behind the given place in the order of taker s, or none is.
+abbrev pub NextAfter : Market → ℕ → List ℕ → ℕ → Option ℕ → Type 0
+NextAfter w s cs place (Some d) = (among cs d ≡ true) × (place < w.brew_place s d) × ((e : ℕ) → among cs e ≡ true → place < w.brew_place s e → w.brew_place s d ≤ w.brew_place s e)
+NextAfter w s cs place None = (e : ℕ) → among cs e ≡ true → w.brew_place s e ≤ place

@@ -1,8 +1,11 @@
--- What a choice and a prepared market are known to be.
-use Rattle.std.proofs.Common.{◌≡◌, ℕ, ◌+◌, ◌-◌, ◌*◌, ◌<◌, ◌≤◌, true, get_or, sym, ap, ◌∙◌, subst, arith}
+-- What a choice and two prepared books are known to be.
+use Rattle.std.proofs.Common.{◌≡◌, ℕ, ◌+◌, ◌-◌, ◌*◌, ◌<◌, ◌≤◌, true, false, List, length, drop, get_or, Option, MatchOption, sym, ap, ◌∙◌, subst, arith}
+use Rattle.std.specs.List.{slice_range, AllWithin, HoldsAt}
+use Rattle.std.proofs.lemmas.List.{get_or-take, get_or-drop, length-take, length-drop}
 use Rattle.std.proofs.lemmas.Bool.{and_parts, leb-true}
 use Rattle.orders.specs.Books.{Meaning, Sound, within}
 use Rattle.orders.specs.Written.{row_end}
+use Rattle.orders.specs.declared.book.OrderBook.{Ghosts}
 use Rattle.fair.specs.Markets.{InLimits, SoundMarket}
 use Rattle.fair.specs.Choices.{among, IsChoice}
 use Rattle.fair.proofs.FromBooks.{market_from_books}
@@ -11,10 +14,10 @@ use Rattle.choices.specs.Chosen.{brews_of}
 use Rattle.choices.specs.declared.figures.Figures.{Figures as RoundFigures}
 use Rattle.choices.specs.declared.choice.Choice.{Choice}
 use Rattle.choices.proofs.Sets.{brews_ascending}
-use Rattle.acceptance.specs.Rankings.{place_of, PassedOver, NextAfter}
-use Rattle.acceptance.proofs.Nexts.{found, exhausted}
-use Rattle.allot.specs.declared.market.Market.{Market as Prepared}
-use Rattle.allot.specs.Prepared.{AtPlace, market_in, Ready}
+use Rattle.acceptance.specs.Rankings.{place_of, NextAfter}
+use Rattle.acceptance.proofs.Nexts.{next_found}
+use Rattle.allot.specs.declared.opening.Opening.{Opening}
+use Rattle.allot.specs.Openings.{AtPlace, brews_opened, market_in}
 
 limits_of : (f : RoundFigures) → InLimits (figures_of f)
 limits_of f = record {
@@ -27,60 +30,84 @@ limits_of f = record {
   a_lot_each = f.a_lot_each;
 }
 
+-- an entry of a row of a table
+get_or-row : (table : List ℕ) (start n p : ℕ) → p < n → get_or (slice_range table start (start + n)) p 0 ≡ get_or table (start + p) 0
+get_or-row table start n p l = get_or-take (start + n - start) (drop start table) p 0 (omega arith) ∙ get_or-drop start table p 0
+
 pub choice_of : (c : Choice) → IsChoice (figures_of c.figures) (brews_of c)
 choice_of c = record { size = c.size; ascending = brews_ascending 0 c.figures.brews c.figures.brews c.bits (omega arith) }
 
-module _ {T B : Type 0} (takers : T → Meaning) (brews : B → Meaning) (m : Prepared T B) (choice : Choice) (ready : Ready takers brews m choice.figures)
-    (sound_takers : Sound (takers m.takers.now)) (sound_brews : Sound (brews m.brews.now)) where
-  pub sound_market : SoundMarket (market_in takers brews m choice.figures)
-  sound_market = market_from_books _ _ _ (limits_of choice.figures) sound_takers sound_brews ready.complete
+module _ {T B : Type 0} {ts : Ghosts T} {bs : Ghosts B} (o : Opening T B ts bs) where
+  abbrev pub takers_book : Meaning
+  takers_book = ts.meaning o.books.now.takers.now
 
-  -- the tables have a place for each taker and brew
-  pub taker_row : (s p : ℕ) → s < choice.figures.takers → p < choice.figures.brews → s * m.by_taker.items + p < 6912
-  taker_row s p l h =
-      let t = takers m.takers.now in
-      let wide : s * m.by_taker.items ≡ s * t.items = ap (λ n. s * n) ready.brews_wide in
-      omega (arith, sound_takers.few_places, row_end s t.choosers t.items (omega (arith, ready.complete.a_taker_each)), ready.complete.of_brews)
+  abbrev pub brews_book : Meaning
+  brews_book = bs.meaning o.books.now.brews.now
 
-  pub brew_row : (k p : ℕ) → k < choice.figures.brews → p < choice.figures.takers → k * m.by_brew.items + p < 6912
-  brew_row k p l h =
-      let b = brews m.brews.now in
-      let wide : k * m.by_brew.items ≡ k * b.items = ap (λ n. k * n) ready.takers_wide in
-      omega (arith, sound_brews.few_places, row_end k b.choosers b.items (omega (arith, ready.complete.a_brew_each)), ready.complete.of_takers)
+  pub takers_sound : Sound takers_book
+  takers_sound = o.books.now.brews_ranked.sound
 
-  -- going through a taker's row: the brew found, and none
-  module _ (s : ℕ) (l : s < choice.figures.takers) (from : ℕ) where
-    abbrev t : Meaning
-    t = takers m.takers.now
+  pub brews_sound : Sound brews_book
+  brews_sound = o.books.now.takers_ranked.sound
 
-    pub brew_found : (p brew : ℕ) → from ≤ p → p < choice.figures.brews → PassedOver t (brews_of choice) s m.by_taker.table from p
-        → brew ≡ get_or m.by_taker.table (s * m.by_taker.items + p) 0 → among (brews_of choice) brew ≡ true → NextAfter (market_in takers brews m choice.figures) s (brews_of choice) from brew
-    brew_found p brew behind high passed is listed =
-        let at : brew ≡ get_or m.by_taker.table (s * t.items + p) 0 = is ∙ ap (λ n. get_or m.by_taker.table (s * n + p) 0) ready.brews_wide in
-        subst (NextAfter (market_in takers brews m choice.figures) s (brews_of choice) from) (sym at)
-        (found _ t (brews m.brews.now) sound_takers ready.complete (brews_of choice) (choice_of choice) s l m.by_taker.table ready.brews_ranked from p behind
-        (omega (arith, ready.complete.of_brews)) passed (subst (λ k. among (brews_of choice) k ≡ true) at listed))
+  pub sound_market : SoundMarket (market_in o)
+  sound_market = market_from_books _ _ _ (limits_of o.choice.now.figures) takers_sound brews_sound o.complete
 
-    pub none_found : (p : ℕ) → choice.figures.brews ≤ p → PassedOver t (brews_of choice) s m.by_taker.table from p → NextAfter (market_in takers brews m choice.figures) s (brews_of choice) from 0
-    none_found p all passed =
-        exhausted _ t (brews m.brews.now) sound_takers ready.complete (brews_of choice) (choice_of choice) s l m.by_taker.table ready.brews_ranked from
-        (λ i behind below. passed i behind (omega (arith, ready.complete.of_brews)))
+  pub is_choice : IsChoice (figures_of o.choice.now.figures) (brews_opened o)
+  is_choice = choice_of o.choice.now
 
-  -- a brew's row: what stands there is the number of a taker, at that place
-  pub taker_found : (c p : ℕ) → within c choice.figures.brews ≡ true → p < choice.figures.takers
-      → (1 ≤ get_or m.by_brew.table ((c - 1) * m.by_brew.items + p) 0) × AtPlace (market_in takers brews m choice.figures) c p (get_or m.by_brew.table ((c - 1) * m.by_brew.items + p) 0 - 1)
-  taker_found c p brew h =
-      let b = brews m.brews.now in
+  -- the rows stand in the tables
+  pub taker_row : (s : ℕ) → s < o.choice.now.figures.takers → s * o.books.now.by_taker.items + o.books.now.by_taker.items ≤ 6912
+  taker_row s l =
+      let wide : s * o.books.now.by_taker.items ≡ s * takers_book.items = ap (λ n. s * n) o.books.now.brews_ranked.wide in
+      omega (arith, o.books.now.brews_ranked.wide, takers_sound.few_places, row_end s takers_book.choosers takers_book.items (omega (arith, o.complete.a_taker_each)))
+
+  pub brew_row : (k : ℕ) → k < o.choice.now.figures.brews → k * o.books.now.by_brew.items + o.books.now.by_brew.items ≤ 6912
+  brew_row k l =
+      let wide : k * o.books.now.by_brew.items ≡ k * brews_book.items = ap (λ n. k * n) o.books.now.takers_ranked.wide in
+      omega (arith, o.books.now.takers_ranked.wide, brews_sound.few_places, row_end k brews_book.choosers brews_book.items (omega (arith, o.complete.a_brew_each)))
+
+  -- what stands in a brew's row is the number of a taker, at that place
+  pub taker_found : (c p : ℕ) (row : List ℕ) → within c o.choice.now.figures.brews ≡ true → p < o.choice.now.figures.takers
+      → row ≡ slice_range o.books.now.by_brew.table ((c - 1) * o.books.now.by_brew.items) ((c - 1) * o.books.now.by_brew.items + o.books.now.by_brew.items) → (1 ≤ get_or row p 0) × AtPlace (market_in o) c p (get_or row p 0 - 1)
+  taker_found c p row brew h is =
       let parts = and_parts _ _ brew in
       let low = leb-true 1 c parts.0 in
-      let high = leb-true c choice.figures.brews parts.1 in
-      let stands = ready.takers_ranked (c - 1) p (omega (arith, ready.complete.a_brew_each)) (omega (arith, ready.complete.of_takers)) in
-      let x : ℕ = get_or m.by_brew.table ((c - 1) * b.items + p) 0 in
+      let high = leb-true c o.choice.now.figures.brews parts.1 in
+      let table = o.books.now.by_brew.table in
+      let wide = o.books.now.takers_ranked.wide in
+      let x : ℕ = get_or row p 0 in
+      let at : x ≡ get_or table ((c - 1) * brews_book.items + p) 0 =
+      ap (λ r. get_or r p 0) is ∙ get_or-row table _ _ p (omega (arith, wide, o.complete.of_takers)) ∙ ap (λ n. get_or table ((c - 1) * n + p) 0) wide in
+      let stands : (within x brews_book.items ≡ true) × (place_of brews_book (c - 1 + 1) x ≡ p + 1) =
+      subst (λ y. (within y brews_book.items ≡ true) × (place_of brews_book (c - 1 + 1) y ≡ p + 1)) (sym at)
+      (o.books.now.takers_ranked.ranks (c - 1) p (omega (arith, o.complete.a_brew_each)) (omega (arith, o.complete.of_takers))) in
       let number = and_parts _ _ stands.0 in
       let first = leb-true 1 x number.0 in
-      let last = leb-true x b.items number.1 in
+      let last = leb-true x brews_book.items number.1 in
       let brew_back : c - 1 + 1 ≡ c = omega arith in
       let taker_back : x ≡ x - 1 + 1 = omega arith in
-      let at : place_of b c (x - 1 + 1) ≡ p + 1 = subst (λ y. place_of b c y ≡ p + 1) taker_back (subst (λ k. place_of b k x ≡ p + 1) brew_back stands.1) in
-      subst (λ n. (1 ≤ get_or m.by_brew.table ((c - 1) * n + p) 0) × AtPlace (market_in takers brews m choice.figures) c p (get_or m.by_brew.table ((c - 1) * n + p) 0 - 1)) (sym ready.takers_wide)
-      (first, record { taker = omega (arith, ready.complete.of_takers); there = at })
+      (first, record { taker = omega (arith, o.complete.of_takers); there = subst (λ y. place_of brews_book c y ≡ p + 1) taker_back (subst (λ k. place_of brews_book k x ≡ p + 1) brew_back stands.1) })
+
+  -- the first of the choice's brews that is found behind a place in a taker's row is the next
+  pub brew_found : (s place : ℕ) (row rest : List ℕ) → s < o.choice.now.figures.takers → place ≤ o.choice.now.figures.brews
+      → row ≡ slice_range o.books.now.by_taker.table (s * o.books.now.by_taker.items) (s * o.books.now.by_taker.items + o.books.now.by_taker.items) → rest ≡ drop place row
+      → (next : Option ℕ) → MatchOption next (AllWithin (λ d. among (brews_opened o) d ≡ false) rest 0 (length rest))
+      (λ d. (among (brews_opened o) d ≡ true) × (i : ℕ) × (i < length rest) × HoldsAt (λ x. x ≡ d) rest i × AllWithin (λ x. among (brews_opened o) x ≡ false) rest 0 i)
+      → NextAfter (market_in o) s (brews_opened o) place next
+  brew_found s place row rest l near is behind next =
+      let table = o.books.now.by_taker.table in
+      let n = o.books.now.by_taker.items in
+      let wide = o.books.now.brews_ranked.wide in
+      let room = taker_row s l in
+      let many : length row ≡ n = ap length is ∙ omega (arith, length-take (s * n + n - s * n) (drop (s * n) table), length-drop (s * n) table, o.books.now.by_taker.long) in
+      let few : length rest ≡ length row - place = ap length behind ∙ length-drop place row in
+      next_found _ takers_book brews_book takers_sound o.complete (brews_opened o) is_choice s l table o.books.now.brews_ranked.ranks place rest
+      (omega (arith, wide, o.complete.of_brews))
+      (λ i m.
+      ap (λ xs. get_or xs i 0) behind
+      ∙ get_or-drop place row i 0
+      ∙ ap (λ xs. get_or xs (place + i) 0) is
+      ∙ get_or-row table (s * n) n (place + i) (omega arith)
+      ∙ ap (λ k. get_or table (s * k + (place + i)) 0) wide)
+      next

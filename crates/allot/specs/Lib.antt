@@ -1,3 +1,4 @@
 pub mod Prepared
+pub mod Openings
 pub mod Runs
 pub mod Best

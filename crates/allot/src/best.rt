@@ -7,8 +7,10 @@ ghost use Rattle.choices.specs.Rounds.{figures_of};
 ghost use Rattle.fair.specs.Acceptance.{deferred_acceptance};
 ghost use Rattle.fair.specs.FromBooks.{Complete, market_of};
 
-use crate::market::Market;
-use assess::market::Market as Books;
+use crate::fault::AllotFault;
+use crate::opening::Opening;
+use crate::prepared::Prepared;
+use assess::market::Market;
 use choices::choice::Choice;
 use orders::book::OrderBook;
 
@@ -19,32 +21,40 @@ fn write_best<T: OrderBook, B: OrderBook>(
     choice: &Choice,
     allotment: &mut [u8],
 )
-    requires { Complete (figures_of choice.now.figures) (T.OrderBook.meaning takers.now) (B.OrderBook.meaning brews.now) × (length allotment.old ≡ choice.now.figures.takers) }
-    ensures { allotment.new ≡ deferred_acceptance (market_of (figures_of choice.now.figures) (T.OrderBook.meaning takers.now) (B.OrderBook.meaning brews.now)) (brews_of choice.now) }
+    requires complete { Complete (figures_of choice.now.figures) (T.meaning takers.now) (B.meaning brews.now) }
+    requires length { length allotment.old ≡ choice.now.figures.takers }
+    ensures { allotment.new ≡ deferred_acceptance (market_of (figures_of choice.now.figures) (T.meaning takers.now) (B.meaning brews.now)) (brews_of choice.now) }
 {
-    let market = Market::of(takers, brews);
-    market.best_fair(choice, allotment);
+    let books = Prepared::of(takers, brews);
+    let opening = Opening {
+        books: &books,
+        choice,
+    };
+    opening.best_fair(allotment);
 }
 
-/// Writes the best fair allotment over a choice, the brew of each taker, and answers true. Where the books are not
-/// complete for the figures of the choice, or the list has another length than there are takers, it answers false, and
-/// the list stays as it was.
+/// Writes the best fair allotment over a choice, the brew of each taker. It is refused where the books are not complete
+/// for the figures of the choice, and else where the list has another length than there are takers; refused, the list
+/// stays as it was.
 pub fn best_fair<T: OrderBook, B: OrderBook>(
     takers: &T,
     brews: &B,
     choice: &Choice,
     allotment: &mut [u8],
-) -> bool
-    ensures { BestFairWritten (figures_of choice.now.figures) (T.OrderBook.meaning takers.now) (B.OrderBook.meaning brews.now) (brews_of choice.now) allotment.old result allotment.new }
+) -> Result<(), AllotFault>
+    ensures { BestFairWritten (figures_of choice.now.figures) (T.meaning takers.now) (B.meaning brews.now) (brews_of choice.now) allotment.old result allotment.new }
 {
-    let books = Books {
+    let market = Market {
         figures: choice.figures(),
         takers,
         brews,
     };
-    if allotment.len() != books.figures.takers() || !books.is_complete() {
-        return false;
+    if !market.is_complete() {
+        return Err(AllotFault::Incomplete);
+    }
+    if allotment.len() != market.figures.takers() {
+        return Err(AllotFault::Length);
     }
     write_best(takers, brews, choice, allotment);
-    true
+    Ok(())
 }

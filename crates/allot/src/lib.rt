@@ -2,6 +2,8 @@
 #![tactic(auto)]
 
 pub mod best;
-mod market;
+pub mod fault;
+mod opening;
+mod prepared;
 mod ranking;
 mod run;

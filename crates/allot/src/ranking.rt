@@ -1,7 +1,7 @@
 //! Who stands at each place of the orders of a book.
 
-ghost use Rattle.std.specs.Prelude.{◌≡◌, ◌+◌, ◌*◌, ◌<◌, length, slice_index};
-ghost use Rattle.acceptance.specs.Rankings.{RankedTo, Ranks};
+ghost use Rattle.std.specs.Prelude.{◌≡◌, ◌+◌, ◌*◌, ◌<◌, ◌≤◌, length, slice_range};
+ghost use Rattle.acceptance.specs.Rankings.{RankedTo};
 ghost use Rattle.fair.specs.FromBooks.{AllOrdered};
 
 use assess::place::place_in;
@@ -18,24 +18,25 @@ pub(crate) struct Ranking {
 
 /// Puts each item where it belongs in the row of a chooser, counted from 0.
 fn rank_row<B: OrderBook>(book: &B, chooser: usize, table: &mut [u16])
-    requires ordered { AllOrdered (B.OrderBook.meaning book.now) }
-    requires before { (chooser < (B.OrderBook.meaning book.now).choosers) × RankedTo (B.OrderBook.meaning book.now) chooser 0 table.old }
-    ensures { RankedTo (B.OrderBook.meaning book.now) (chooser + 1) 0 table.new }
+    requires ordered { AllOrdered (B.meaning book.now) }
+    requires before { (chooser < (B.meaning book.now).choosers) × RankedTo (B.meaning book.now) chooser 0 table.old }
+    ensures { RankedTo (B.meaning book.now) (chooser + 1) 0 table.new }
 {
     let items = book.items();
     let start = chooser * items;
     for item in 0..items {
         let place = place_in(book, chooser + 1, item + 1);
-        table[start + (place as usize - 1)] = (item + 1) as u16;
+        table[start + (usize::from(place) - 1)] = (item + 1) as u16;
     }
 }
 
 impl Ranking {
+    ghost use Rattle.allot.specs.Prepared.{IsRankingOf};
+
     /// Asks a book for every place.
     pub(crate) fn of<B: OrderBook>(book: &B) -> Ranking
-        requires { AllOrdered (B.OrderBook.meaning book.now) }
-        ensures ranks { Ranks (B.OrderBook.meaning book.now) result.table }
-        ensures wide { result.items ≡ (B.OrderBook.meaning book.now).items }
+        requires { AllOrdered (B.meaning book.now) }
+        ensures { IsRankingOf (B.meaning book.now) result }
     {
         let mut table = [0; PLACES];
         for chooser in 0..book.choosers() {
@@ -47,11 +48,12 @@ impl Ranking {
         }
     }
 
-    /// The item at a place of a chooser's order, all counted from 0; the item by its number.
-    pub(crate) fn item(&self, chooser: usize, place: usize) -> usize
-        requires { chooser * self.now.items + place < 6912 }
-        ensures { result ≡ slice_index self.now.table (chooser * self.now.items + place) }
+    /// The order of a chooser, who is counted from 0: the numbers of the items.
+    pub(crate) fn row(&self, chooser: usize) -> &[u16]
+        requires { chooser * self.now.items + self.now.items ≤ 6912 }
+        ensures { result.now ≡ slice_range self.now.table (chooser * self.now.items) (chooser * self.now.items + self.now.items) }
     {
-        self.table[chooser * self.items + place] as usize
+        let start = chooser * self.items;
+        &self.table[start..start + self.items]
     }
 }

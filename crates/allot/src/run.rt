@@ -13,6 +13,16 @@ mod holding;
 /// A number for each brew from 1 on; that at 0 is not used.
 const BY_BREW: usize = BREWS + 1;
 
+/// What a brew holds.
+#[derive(Clone, Copy)]
+struct Held {
+    /// How many takers.
+    count: u16,
+    /// The place of the last of them in the order of the brew.
+    // 0 where it holds none: any place is behind it, and the proofs compare numbers.
+    last: u16,
+}
+
 /// Who waits, and what each brew holds. Every taker stands at a brew; those who wait in line have yet to be considered
 /// there, and the others are held.
 #[derive(Drop)]
@@ -22,12 +32,8 @@ pub(crate) struct Run {
     slots: [u16; MOST],
     /// Whether a taker waits.
     waiting: [bool; MOST],
-    /// How many takers a brew holds.
-    counts: [u16; BY_BREW],
-    /// The place of the last of them in the order of the brew.
-    lasts: [u16; BY_BREW],
+    held: [Held; BY_BREW],
     ghost room: { length slots ≡ 432 },
     ghost marks: { length waiting ≡ 432 },
-    ghost counted: { length counts ≡ 17 },
-    ghost noted: { length lasts ≡ 17 },
+    ghost each: { length held ≡ 17 },
 }

@@ -23,7 +23,7 @@ fn line_by<T: OrderBook, B: OrderBook>(
 ) -> Result<Option<String>, AllocError>
     ensures { ChoiceLine (figures_of choice.now.figures) (T.OrderBook.meaning takers.now) (B.OrderBook.meaning brews.now) (brews_of choice.now) (length allotment.old) result }
 {
-    if !best_fair(takers, brews, choice, allotment) {
+    if best_fair(takers, brews, choice, allotment).is_err() {
         return Ok(None);
     }
     let mut text = choice_text(heap, choice)?;

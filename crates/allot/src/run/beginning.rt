@@ -1,13 +1,10 @@
 //! How a run begins.
 
 ghost use Rattle.std.specs.Prelude.{◌≡◌, length};
-ghost use Rattle.allot.specs.Prepared.{market_in, Ready};
 ghost use Rattle.allot.specs.Runs.{Fresh, in_line, State};
-ghost use Rattle.choices.specs.Chosen.{brews_of};
 
-use super::{BY_BREW, Run};
-use crate::market::Market;
-use choices::choice::Choice;
+use super::{BY_BREW, Held, Run};
+use crate::opening::Opening;
 use line::Line;
 use orders::book::OrderBook;
 use orders::limits::MOST;
@@ -21,24 +18,21 @@ impl Run {
             line: Line::new(),
             slots: [0; MOST],
             waiting: [true; MOST],
-            counts: [0; BY_BREW],
-            lasts: [0; BY_BREW],
+            held: [Held { count: 0, last: 0 }; BY_BREW],
         }
     }
 
     /// Has every taker stand at the brew of the choice that it ranks highest, and wait there.
     pub(crate) fn begin<T: OrderBook, B: OrderBook>(
-        market: &Market<T, B>,
-        choice: &Choice,
+        opening: &Opening<T, B>,
         stands: &mut [u8],
     ) -> Run
-        requires ready { Ready T.OrderBook.meaning B.OrderBook.meaning market.now choice.now.figures }
-        requires sizes { length stands.old ≡ choice.now.figures.takers }
-        ensures { State (market_in T.OrderBook.meaning B.OrderBook.meaning market.now choice.now.figures) (brews_of choice.now) stands.new result (in_line result) }
+        requires { length stands.old ≡ opening.now.choice.now.figures.takers }
+        ensures { State opening.now stands.new result (in_line result) }
     {
         let mut run = Run::fresh();
-        for taker in 0..choice.figures().takers() {
-            stands[taker] = market.next_brew(choice, taker, 0) as u8;
+        for (taker, stand) in stands.iter_mut().enumerate() {
+            *stand = opening.next_brew(taker, 0).unwrap() as u8;
             run.wait(taker);
         }
         run

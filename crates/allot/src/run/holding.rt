@@ -2,7 +2,7 @@
 
 ghost use Rattle.std.specs.Prelude.{◌≡◌, ◌<◌, [], ◌∷◌, ◌++◌, length, nat_lt, slice_index};
 ghost use Rattle.acceptance.specs.Running.{holds};
-ghost use Rattle.allot.specs.Runs.{Held, in_line, Waiting};
+ghost use Rattle.allot.specs.Runs.{HoldsMore, Waiting, counts, in_line, lasts};
 
 use super::Run;
 use choices::choice::Choice;
@@ -13,33 +13,34 @@ impl Run {
         requires { (taker < length stands.now) × (taker < 432) }
         ensures { result ≡ holds stands.now self.now.waiting brew taker }
     {
-        stands[taker] as usize == brew && !self.waiting[taker]
+        usize::from(stands[taker]) == brew && !self.waiting[taker]
     }
 
     /// Whether a brew holds fewer takers than it has lots.
     pub(crate) fn has_lot(&self, choice: &Choice, brew: usize) -> bool
         requires { brew < 17 }
-        ensures { result ≡ nat_lt (slice_index self.now.counts brew) choice.now.figures.lots }
+        ensures { result ≡ nat_lt (slice_index (counts self.now) brew) choice.now.figures.lots }
     {
-        (self.counts[brew] as usize) < choice.figures().lots()
+        usize::from(self.held[brew].count) < choice.figures().lots()
     }
 
     /// Whether the last taker that a brew holds is behind a place of its order.
     pub(crate) fn is_behind(&self, brew: usize, place: u16) -> bool
         requires { brew < 17 }
-        ensures { result ≡ nat_lt place (slice_index self.now.lasts brew) }
+        ensures { result ≡ nat_lt place (slice_index (lasts self.now) brew) }
     {
-        place < self.lasts[brew]
+        place < self.held[brew].last
     }
 
     /// Has a brew hold one taker more, at this place of its order.
     pub(crate) fn hold(&mut self, brew: usize, taker: usize, place: u16)
-        requires { (taker < 432) × (brew < 17) × (slice_index self.old.counts brew < 48) }
-        ensures { Held brew taker place self.old self.new }
+        requires { (taker < 432) × (brew < 17) × (slice_index (counts self.old) brew < 48) }
+        ensures { HoldsMore brew taker place self.old self.new }
     {
         self.waiting[taker] = false;
-        self.counts[brew] += 1;
-        self.lasts[brew] = self.lasts[brew].max(place);
+        let held = &mut self.held[brew];
+        held.count += 1;
+        held.last = held.last.max(place);
     }
 
     /// Puts a taker behind all who wait.
@@ -47,9 +48,6 @@ impl Run {
         requires { (taker < 432) × (length (in_line self.old) < 432) }
         ensures { Waiting taker self.old self.new }
     {
-        match self.line.put(&mut self.slots, taker as u16) {
-            Ok(()) => (),
-            Err(_) => unreachable(),
-        }
+        self.line.put(&mut self.slots, taker as u16).unwrap();
     }
 }

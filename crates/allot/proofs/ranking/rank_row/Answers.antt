@@ -32,8 +32,8 @@ loop-item-preserved g c =
     let sound : Sound book = g.met.B.OrderBook.sound c.args.book.now in
     let k = c.args.chooser in
     let x = c.loop-item.item in
-    let is : k * c.items-items.result + (c.place_in-place.result - 1) ≡ spot book k x =
-    ap (λ n. k * n + (c.place_in-place.result - 1)) c.items-items.ensures ∙ ap (λ p. k * book.items + (p - 1)) c.place_in-place.ensures in
+    let is : k * c.items-items.result + (c.from.result - 1) ≡ spot book k x =
+    ap (λ n. k * n + (c.from.result - 1)) c.items-items.ensures ∙ ap (λ p. k * book.items + (p - 1)) (c.from.ensures ∙ c.place_in-place.ensures) in
     subst (λ at. RankedTo book k (x + 1) (set c.loop-item.table at (x + 1))) (sym is)
     (ranked_more book sound c.requires.ordered k x c.loop-item.table c.requires.before.0 (omega arith) c.loop-item.invariant)
 

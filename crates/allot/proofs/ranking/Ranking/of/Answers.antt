@@ -15,4 +15,4 @@ returns g c =
     let book = g.B.OrderBook.meaning c.args.book.now in
     let sound : Sound book = g.met.B.OrderBook.sound c.args.book.now in
     let all : c.loop-chooser.chooser ≡ book.choosers = omega arith in
-    record { ranks = ranked_all book sound c.requires _ (subst (λ k. RankedTo book k 0 c.loop-chooser.table) all c.loop-chooser.invariant.1); wide = c.items.ensures }
+    record { sound = sound; wide = c.items.ensures; ranks = ranked_all book sound c.requires _ (subst (λ k. RankedTo book k 0 c.loop-chooser.table) all c.loop-chooser.invariant.1) }
