@@ -1,19 +1,21 @@
 -- What the program is asked, and what it answers.
-use Rattle.std.specs.Prelude.{◌≡◌, ℕ, zero, suc, cond, List, [], ◌∷◌, ◌++◌, Some, None, Ok, Err, codes, Option, Result, ◌≢◌}
+use Rattle.std.specs.Prelude.{◌≡◌, ℕ, cond, List, [], ◌∷◌, Some, None, Ok, Err, codes, Option, Result, ◌≢◌}
+use Rattle.std.specs.List.{flat_map, range_with_len}
 use Rattle.cards.specs.Readings.{list_reading, points_reading}
 use Rattle.orders.specs.Books.{Meaning, Reading, blank, entered, fits, place_in, read_card}
 use Rattle.orders.specs.declared.fault.BookFault.{BookFault}
 use Rattle.orders.specs.declared.fault.BookFault.TheVariants.{Size}
 use Rattle.readcard.specs.declared.answer.Kind.{Kind}
 use Rattle.readcard.specs.declared.answer.Kind.TheVariants.{List as ListKind, Points as PointsKind}
+use Rattle.readcard.specs.declared.answer.UnknownKind.{UnknownKind}
 use Rattle.readcard.specs.declared.line.Line.{Line}
 use Rattle.readcard.specs.declared.line.Line.TheVariants.{Ok as OkLine, Place, Refused}
 
 -- the word by which a kind is asked for
-abbrev pub Named : List ℕ → Option Kind → Type 0
-Named word (Some ListKind) = word ≡ codes "list"
-Named word (Some PointsKind) = word ≡ codes "points"
-Named word None = (word ≢ codes "list") × (word ≢ codes "points")
+abbrev pub Named : List ℕ → Result Kind UnknownKind → Type 0
+Named word (Ok ListKind) = word ≡ codes "list"
+Named word (Ok PointsKind) = word ≡ codes "points"
+Named word (Err _) = (word ≢ codes "list") × (word ≢ codes "points")
 
 abbrev pub reading_of : Kind → Reading
 reading_of ListKind = list_reading
@@ -34,8 +36,7 @@ place_line item None = []
 
 -- `ok`, and then a line for each of the first n items that has a place with chooser 1
 abbrev pub lines_in : Meaning → ℕ → List Line
-lines_in book zero = OkLine ∷ []
-lines_in book (suc n) = lines_in book n ++ place_line (suc n) (place_in book 1 (suc n))
+lines_in book n = OkLine ∷ flat_map (λ item. place_line item (place_in book 1 item)) (range_with_len 1 n)
 
 abbrev pub lines_of : ℕ → Result (List ℕ) BookFault → List Line
 lines_of items (Ok places) = lines_in (entered (blank 1 items) 1 places) items

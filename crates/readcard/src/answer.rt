@@ -1,6 +1,6 @@
 //! What the program answers to a card.
 
-ghost use Rattle.std.specs.Prelude.{◌≡◌, IfOk};
+ghost use Rattle.std.specs.Prelude.{◌≡◌, IfOk, Some, codes};
 ghost use Rattle.readcard.specs.Asked.{Named, SoleCard, answer_of, lines_in, reading_of};
 
 use crate::line::Line;
@@ -10,6 +10,9 @@ use orders::book::OrderBook;
 use orders::card_book::CardBook;
 use orders::fault::BookFault;
 use std::alloc::{AllocError, Global};
+use std::error::Error;
+use std::fmt;
+use std::str::FromStr;
 
 /// A kind of card.
 #[derive(Clone, Copy)]
@@ -18,20 +21,37 @@ pub enum Kind {
     Points,
 }
 
-/// The kind that a word names.
-pub fn kind_of(word: &str) -> Option<Kind>
-    ensures { Named word.now result }
-{
-    match word {
-        "list" => Some(Kind::List),
-        "points" => Some(Kind::Points),
-        _ => None,
+/// A word names no kind of card.
+#[derive(Clone, Copy, Debug)]
+pub struct UnknownKind;
+
+impl fmt::Display for UnknownKind {
+    ghost output = { λ _. Some (codes "KIND is neither list nor points") };
+
+    fn fmt<W: fmt::Write>(&self, f: &mut fmt::Formatter<W>) -> fmt::Result {
+        write!(f, "KIND is neither list nor points")
+    }
+}
+
+impl Error for UnknownKind {}
+
+impl FromStr for Kind {
+    type Err = UnknownKind;
+
+    ghost from_str_gives = { Named };
+
+    fn from_str(word: &str) -> Result<Kind, UnknownKind> {
+        match word {
+            "list" => Ok(Kind::List),
+            "points" => Ok(Kind::Points),
+            _ => Err(UnknownKind),
+        }
     }
 }
 
 /// Reads a card as that of the only chooser of a book.
 fn read_sole<B: OrderBook>(book: &mut B, items: usize, card: &[u8]) -> Result<(), BookFault>
-    ensures { SoleCard (B.OrderBook.reading book.old) items card.now (B.OrderBook.meaning book.old) result (B.OrderBook.meaning book.new) }
+    ensures { SoleCard (B.reading book.old) items card.now (B.meaning book.old) result (B.meaning book.new) }
 {
     book.clear(1, items)?;
     book.enter(1, card)
@@ -39,13 +59,13 @@ fn read_sole<B: OrderBook>(book: &mut B, items: usize, card: &[u8]) -> Result<()
 
 /// The line `ok`, and one for each item that has a place with the first chooser.
 fn place_lines<B: OrderBook>(heap: Global, book: &B) -> Result<Vec<Line>, AllocError>
-    ensures { IfOk result (λ lines. lines.items ≡ lines_in (B.OrderBook.meaning book.now) (B.OrderBook.meaning book.now).items) }
+    ensures { IfOk result (λ lines. lines.items ≡ lines_in (B.meaning book.now) (B.meaning book.now).items) }
 {
     let mut lines = Vec::new(heap);
     lines.push(Line::Ok)?;
-    for k in 0..book.items() {
-        if let Some(place) = book.place(1, k + 1) {
-            lines.push(Line::Place { item: k + 1, place })?;
+    for item in 1..=book.items() {
+        if let Some(place) = book.place(1, item) {
+            lines.push(Line::Place { item, place })?;
         }
     }
     Ok(lines)
@@ -58,15 +78,11 @@ fn answer_by<B: OrderBook + Drop>(
     items: usize,
     card: &[u8],
 ) -> Result<Vec<Line>, AllocError>
-    ensures { IfOk result (λ lines. lines.items ≡ answer_of (B.OrderBook.reading book) items card.now) }
+    ensures { IfOk result (λ lines. lines.items ≡ answer_of (B.reading book) items card.now) }
 {
     match read_sole(&mut book, items, card) {
         Ok(()) => place_lines(heap, &book),
-        Err(fault) => {
-            let mut lines = Vec::new(heap);
-            lines.push(Line::Refused(fault))?;
-            Ok(lines)
-        }
+        Err(fault) => Ok(vec![in heap; Line::Refused(fault)]?),
     }
 }
 

@@ -2,7 +2,7 @@
 //! of each item, or the number and place of the refusal.
 #![tactic(auto)]
 
-use anyhow::anyhow;
+use anyhow::{Context, bail};
 use std::env;
 use std::io::Read;
 use std::process::ExitCode;
@@ -14,14 +14,13 @@ fn run(rt: &HostRuntime) -> anyhow::Result<()> {
     let mut args = env::args(rt)?;
     let _program = args.next();
     let (Some(kind), Some(items), None) = (args.next(), args.next(), args.next()) else {
-        return Err(anyhow!("usage: readcard KIND ITEMS, with the card on standard input"));
+        bail!("usage: readcard KIND ITEMS, with the card on standard input");
     };
-    let Some(kind) = answer::kind_of(kind.as_str()) else {
-        return Err(anyhow!("KIND is neither list nor points"));
-    };
-    let Ok(items) = items.as_str().parse::<usize>() else {
-        return Err(anyhow!("ITEMS is no number below 2 to the 64th"));
-    };
+    let kind = kind.as_str().parse()?;
+    let items = items
+        .as_str()
+        .parse()
+        .context("ITEMS is no number below 2 to the 64th")?;
     let mut card = Vec::new(rt.alloc());
     rt.stdin().read_to_end(&mut card)?;
     for line in answer::answer(rt.alloc(), kind, items, card.as_slice())?.iter() {

@@ -1,5 +1,5 @@
 -- One number more behind a text.
-use Rattle.std.proofs.Common.{◌≡◌, ℕ, ◌+◌, Bool, true, false, cond, List, [], ◌∷◌, ◌++◌, codes, decimal, filter, sym, ap, ◌∙◌, append-nil, arith}
+use Rattle.std.proofs.Common.{◌≡◌, ℕ, ◌+◌, ◌-◌, ◌≤◌, Bool, true, false, cond, [], ◌∷◌, ◌++◌, codes, decimal, filter, sym, ap, ◌∙◌, append-nil, arith}
 use Rattle.std.specs.List.{range_with_len}
 use Rattle.std.proofs.lemmas.List.FromFn.{filter_of_map_range_with_len_more}
 use Rattle.std.proofs.lemmas.List.{flat_map_more, map-id}
@@ -13,21 +13,25 @@ use Rattle.orders.specs.Books.{within}
 use Rattle.std.proofs.lemmas.Bool.Decides.{nat_tests}
 use Rattle.worked.specs.Printed.{spaced}
 
-pub spaced_more : (words text : List ℕ) (xs : List ℕ) (x : ℕ) → text ≡ words ++ spaced xs → text ++ (codes " " ++ decimal x) ≡ words ++ spaced (xs ++ x ∷ [])
-spaced_more words text xs x is = ap (λ bs. bs ++ (codes " " ++ decimal x)) is ∙ flat_map_more (λ (n : ℕ). codes " " ++ decimal n) words xs x
-
--- the numbers from 1 to n + 1 that pass
-module _ (p : ℕ → Bool) (n : ℕ) where
-  kept_more : filter p (range_with_len 1 (n + 1)) ≡ filter p (range_with_len 1 n) ++ cond (p (n + 1)) ((n + 1) ∷ []) []
-  kept_more =
+-- the numbers from 1 to n that pass, and one more
+module _ (p : ℕ → Bool) where
+  kept_more : (n : ℕ) → filter p (range_with_len 1 (n + 1)) ≡ filter p (range_with_len 1 n) ++ cond (p (n + 1)) ((n + 1) ∷ []) []
+  kept_more n =
       ap (filter p) (sym (map-id (range_with_len 1 (n + 1)))) ∙ filter_of_map_range_with_len_more p (λ (x : ℕ). x) 1 n (n + 1) (omega arith)
       ∙ ap (λ xs. filter p xs ++ cond (p (n + 1)) ((n + 1) ∷ []) []) (map-id (range_with_len 1 n))
 
-  pub kept_one : p (n + 1) ≡ true → filter p (range_with_len 1 n) ++ (n + 1) ∷ [] ≡ filter p (range_with_len 1 (n + 1))
-  kept_one passes = ap (λ b. filter p (range_with_len 1 n) ++ cond b ((n + 1) ∷ []) []) (sym passes) ∙ sym kept_more
+  -- a number that passes is printed behind those below it
+  pub spaced_one : (n : ℕ) → 1 ≤ n → p n ≡ true → spaced (filter p (range_with_len 1 (n - 1))) ++ (codes " " ++ decimal n) ≡ spaced (filter p (range_with_len 1 n))
+  spaced_one n counted passes =
+      let back : n - 1 + 1 ≡ n = omega arith in
+      flat_map_more (λ (x : ℕ). codes " " ++ decimal x) [] (filter p (range_with_len 1 (n - 1))) n
+      ∙ ap spaced (ap (λ b. filter p (range_with_len 1 (n - 1)) ++ cond b (n ∷ []) []) (sym passes) ∙ sym (rw back at (kept_more (n - 1))))
 
-  pub kept_none : p (n + 1) ≡ false → filter p (range_with_len 1 n) ≡ filter p (range_with_len 1 (n + 1))
-  kept_none fails = sym (append-nil _) ∙ ap (λ b. filter p (range_with_len 1 n) ++ cond b ((n + 1) ∷ []) []) (sym fails) ∙ sym kept_more
+  -- one that fails is not
+  pub spaced_none : (n : ℕ) → 1 ≤ n → p n ≡ false → spaced (filter p (range_with_len 1 (n - 1))) ≡ spaced (filter p (range_with_len 1 n))
+  spaced_none n counted fails =
+      let back : n - 1 + 1 ≡ n = omega arith in
+      ap spaced (sym (append-nil _) ∙ ap (λ b. filter p (range_with_len 1 (n - 1)) ++ cond b (n ∷ []) []) (sym fails) ∙ sym (rw back at (kept_more (n - 1))))
 
 -- the brews of a round that a choice has are its brews
 pub kept_all : (c : Choice) → filter (among (brews_of c)) (range_with_len 1 c.figures.brews) ≡ brews_of c

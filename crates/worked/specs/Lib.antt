@@ -1,4 +1,3 @@
 pub mod Printed
 pub mod Filled
 pub mod Lines
-pub mod Going

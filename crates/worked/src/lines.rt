@@ -1,52 +1,48 @@
 //! The line of a choice.
 
-ghost use Rattle.std.specs.Prelude.{length};
+ghost use Rattle.std.specs.Prelude.{Some};
 ghost use Rattle.choices.specs.Chosen.{brews_of};
 ghost use Rattle.choices.specs.Rounds.{figures_of};
-ghost use Rattle.worked.specs.Lines.{ChoiceLine};
+ghost use Rattle.worked.specs.Lines.{ChoiceTold, line_bytes};
 
-use crate::text::{choice_text, numbers};
+use crate::text::{Opened, Spaced};
 use allot::best::best_fair;
 use choices::choice::Choice;
 use orders::book::OrderBook;
 use orders::limits::MOST;
-use std::alloc::{AllocError, Global};
+use std::fmt;
 
-/// A choice and its best fair allotment, which is written to the list; none where the books are not complete, or the list
-/// has another length than there are takers.
-fn line_by<T: OrderBook, B: OrderBook>(
-    heap: Global,
-    takers: &T,
-    brews: &B,
-    choice: &Choice,
-    allotment: &mut [u8],
-) -> Result<Option<String>, AllocError>
-    ensures { ChoiceLine (figures_of choice.now.figures) (T.OrderBook.meaning takers.now) (B.OrderBook.meaning brews.now) (brews_of choice.now) (length allotment.old) result }
-{
-    if best_fair(takers, brews, choice, allotment).is_err() {
-        return Ok(None);
-    }
-    let mut text = choice_text(heap, choice)?;
-    let best = numbers(heap, " best fair", allotment)?;
-    text.push_str(best.as_str())?;
-    Ok(Some(text))
+/// The line of a choice and an allotment over it, of which the first places are in use: one for each taker.
+#[derive(Drop)]
+pub struct ChoiceLine {
+    choice: Choice,
+    allotment: [u8; MOST],
 }
 
-/// A choice and its best fair allotment; none where the books are not complete.
+impl fmt::Display for ChoiceLine {
+    ghost output = { λ line. Some (line_bytes line) };
+
+    fn fmt<W: fmt::Write>(&self, f: &mut fmt::Formatter<W>) -> fmt::Result {
+        let takers = self.choice.figures().takers();
+        let opened = Opened(&self.choice);
+        let allotment = Spaced(&self.allotment[..takers]);
+        write!(f, "choice{opened} best fair{allotment}")
+    }
+}
+
+/// The line of a choice and its best fair allotment; none where the books are not complete.
 pub fn choice_line<T: OrderBook, B: OrderBook>(
-    heap: Global,
     takers: &T,
     brews: &B,
     choice: &Choice,
-) -> Result<Option<String>, AllocError>
-    ensures { ChoiceLine (figures_of choice.now.figures) (T.OrderBook.meaning takers.now) (B.OrderBook.meaning brews.now) (brews_of choice.now) choice.now.figures.takers result }
+) -> Option<ChoiceLine>
+    ensures { ChoiceTold (figures_of choice.now.figures) (T.meaning takers.now) (B.meaning brews.now) (brews_of choice.now) result }
 {
     let mut allotment = [0; MOST];
-    line_by(
-        heap,
-        takers,
-        brews,
-        choice,
-        &mut allotment[0..choice.figures().takers()],
-    )
+    let places = &mut allotment[..choice.figures().takers()];
+    best_fair(takers, brews, choice, places).ok()?;
+    Some(ChoiceLine {
+        choice: *choice,
+        allotment,
+    })
 }

@@ -5,10 +5,10 @@
 use crate::filling::fill;
 use crate::lines::choice_line;
 use crate::rounds::{
-    BY_HAND, FIVE_BREWS, SIX_OTHERS, SIX_TAKERS, THREE_BREWS, THREE_OTHERS, THREE_TAKERS,
+    BY_HAND, FIVE_BREWS, Round, SIX_OTHERS, SIX_TAKERS, THREE_BREWS, THREE_OTHERS, THREE_TAKERS,
 };
-use crate::text::{envy_text, numbers};
-use anyhow::anyhow;
+use crate::text::{EnvyLine, Spaced};
+use anyhow::{Context, anyhow};
 use assess::envy::Envy;
 use assess::market::Market;
 use cards::points::Points;
@@ -18,40 +18,22 @@ use choices::figures::Figures;
 use line::Line;
 use orders::book::OrderBook;
 use orders::card_book::CardBook;
-use orders::fault::BookFault;
+use orders::reader::CardReader;
 
 mod filling;
 mod lines;
 mod rounds;
 mod text;
 
-fn entered(answer: Result<(), BookFault>) -> anyhow::Result<()> {
-    match answer {
-        Ok(()) => Ok(()),
-        Err(_) => Err(anyhow!("a card is refused")),
-    }
-}
-
-fn figures(brews: usize, opened: usize, lots: usize) -> anyhow::Result<Figures> {
-    match Figures::new(brews, opened, lots) {
-        Some(figures) => Ok(figures),
-        None => Err(anyhow!("the figures are outside their limits")),
-    }
-}
-
 /// Prints each choice with its best fair allotment, in order.
 fn print_choices<T: OrderBook, B: OrderBook>(
     rt: &HostRuntime,
-    figures: Figures,
-    takers: &T,
-    brews: &B,
+    market: &Market<'_, '_, T, B>,
 ) -> anyhow::Result<()> {
-    let mut next = Some(Choice::first(figures));
+    let mut next = Some(Choice::first(market.figures));
     while let Some(choice) = next {
-        let Some(line) = choice_line(rt.alloc(), takers, brews, &choice)? else {
-            return Err(anyhow!("a book is not complete"));
-        };
-        rt.println(line.as_str())?;
+        let line = choice_line(market.takers, market.brews, &choice);
+        rt.println(line.context("a book is not complete")?)?;
         next = choice.next();
     }
     Ok(())
@@ -63,7 +45,7 @@ fn print_envies<T: OrderBook, B: OrderBook>(
     market: &Market<'_, '_, T, B>,
     allotment: &[u8],
 ) -> anyhow::Result<()> {
-    rt.println(numbers(rt.alloc(), "allotment", allotment)?.as_str())?;
+    println!(rt; "allotment{}", Spaced(allotment))?;
     let mut line = Line::new();
     let mut slots = [Envy {
         taker: 0,
@@ -72,11 +54,8 @@ fn print_envies<T: OrderBook, B: OrderBook>(
     }; 16];
     let count = market.envies(allotment, &mut line, &mut slots);
     println!(rt; "envies {count}")?;
-    for _ in 0..slots.len() {
-        let Some(envy) = line.take(&slots) else {
-            break;
-        };
-        rt.println(envy_text(rt.alloc(), &envy)?.as_str())?;
+    while let Some(envy) = line.take(&slots) {
+        rt.println(EnvyLine(envy))?;
     }
     match market.lowest_envious(allotment) {
         Some(taker) => println!(rt; "lowest taker {taker}")?,
@@ -85,44 +64,76 @@ fn print_envies<T: OrderBook, B: OrderBook>(
     Ok(())
 }
 
-fn print_six_takers(rt: &HostRuntime) -> anyhow::Result<()> {
-    rt.println("six takers, five brews, three opened, two lots each")?;
-    let mut takers = CardBook::new(WrittenList);
-    let mut brews = CardBook::new(WrittenList);
-    entered(fill(&mut takers, 6, 5, &SIX_TAKERS))?;
-    entered(fill(&mut brews, 5, 6, &FIVE_BREWS))?;
-    print_choices(rt, figures(5, 3, 2)?, &takers, &brews)
+/// A book of so many items with a chooser for each card.
+fn book_of<R: CardReader + Drop, const N: usize>(
+    kind: R,
+    items: usize,
+    cards: &[[u8; N]],
+) -> anyhow::Result<CardBook<R>> {
+    let mut book = CardBook::new(kind);
+    fill(&mut book, items, cards).map_err(|_| anyhow!("a card is refused"))?;
+    Ok(book)
 }
 
-fn print_three_takers(rt: &HostRuntime) -> anyhow::Result<()> {
-    rt.println("three takers, three brews, one lot each")?;
-    let mut takers = CardBook::new(WrittenList);
-    let mut brews = CardBook::new(Points);
-    entered(fill(&mut takers, 3, 3, &THREE_TAKERS))?;
-    entered(fill(&mut brews, 3, 3, &THREE_BREWS))?;
-    print_choices(rt, figures(3, 3, 1)?, &takers, &brews)
-}
-
-fn print_three_brews(rt: &HostRuntime) -> anyhow::Result<()> {
-    rt.println("six takers, three brews, two lots each")?;
-    let mut takers = CardBook::new(WrittenList);
-    let mut brews = CardBook::new(WrittenList);
-    entered(fill(&mut takers, 6, 3, &SIX_OTHERS))?;
-    entered(fill(&mut brews, 3, 6, &THREE_OTHERS))?;
-    let figures = figures(3, 3, 2)?;
-    print_choices(rt, figures, &takers, &brews)?;
+/// Prints the choices of a round, and what there is to say of the allotment written by hand.
+fn print_round<R: CardReader + Drop, const T: usize, const B: usize>(
+    rt: &HostRuntime,
+    round: Round<'_, R, T, B>,
+) -> anyhow::Result<()> {
+    rt.println(round.title)?;
+    let takers = book_of(WrittenList, round.brews.len(), round.takers)?;
+    let brews = book_of(round.kind, round.takers.len(), round.brews)?;
     let market = Market {
-        figures,
+        figures: Figures::new(round.brews.len(), round.opened, round.lots).context(
+            "the figures are outside their limits",
+        )?,
         takers: &takers,
         brews: &brews,
     };
-    print_envies(rt, &market, &BY_HAND)
+    print_choices(rt, &market)?;
+    if let Some(allotment) = round.by_hand {
+        print_envies(rt, &market, allotment)?;
+    }
+    Ok(())
 }
 
 fn run(rt: &HostRuntime) -> anyhow::Result<()> {
-    print_six_takers(rt)?;
-    print_three_takers(rt)?;
-    print_three_brews(rt)
+    print_round(
+        rt,
+        Round {
+            title: "six takers, five brews, three opened, two lots each",
+            opened: 3,
+            lots: 2,
+            takers: &SIX_TAKERS,
+            brews: &FIVE_BREWS,
+            kind: WrittenList,
+            by_hand: None,
+        },
+    )?;
+    print_round(
+        rt,
+        Round {
+            title: "three takers, three brews, one lot each",
+            opened: 3,
+            lots: 1,
+            takers: &THREE_TAKERS,
+            brews: &THREE_BREWS,
+            kind: Points,
+            by_hand: None,
+        },
+    )?;
+    print_round(
+        rt,
+        Round {
+            title: "six takers, three brews, two lots each",
+            opened: 3,
+            lots: 2,
+            takers: &SIX_OTHERS,
+            brews: &THREE_OTHERS,
+            kind: WrittenList,
+            by_hand: Some(&BY_HAND),
+        },
+    )
 }
 
 fn main(rt: HostRuntime) -> anyhow::Result<()> {

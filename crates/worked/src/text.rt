@@ -1,51 +1,54 @@
-//! The lines that the program prints.
+//! The parts of the lines that the program prints.
 
-ghost use Rattle.std.specs.Prelude.{◌≡◌, ◌++◌, is_ok, IfOk, if◌then◌else◌, string_bytes, codes, decimal};
+ghost use Rattle.std.specs.Prelude.{Some};
 ghost use Rattle.choices.specs.Chosen.{brews_of};
 ghost use Rattle.worked.specs.Printed.{envy_line, spaced};
 
 use assess::envy::Envy;
 use choices::choice::Choice;
-use std::alloc::{AllocError, Global};
+use std::fmt;
 
-/// A text and behind it a number, parted by a space.
-fn push_number(heap: Global, text: &mut String, number: usize) -> Result<(), AllocError>
-    ensures { string_bytes text.new ≡ (if is_ok result then string_bytes text.old ++ (codes " " ++ decimal number) else string_bytes text.old) }
-{
-    let word = format!(in heap; " {number}")?;
-    text.push_str(word.as_str())
-}
+/// Numbers, each behind a space.
+#[derive(Clone, Copy)]
+pub struct Spaced<'a>(pub &'a [u8]);
 
-/// Some words and behind them numbers, parted by one space each.
-pub fn numbers(heap: Global, words: &str, numbers: &[u8]) -> Result<String, AllocError>
-    ensures { IfOk result (λ s. string_bytes s ≡ words.now ++ spaced numbers.now) }
-{
-    let mut text = String::from_str(heap, words)?;
-    for number in numbers {
-        push_number(heap, &mut text, *number as usize)?;
-    }
-    Ok(text)
-}
+impl fmt::Display for Spaced<'_> {
+    ghost output = { λ numbers. Some (spaced numbers.0.now) };
 
-/// The brews of a choice.
-pub fn choice_text(heap: Global, choice: &Choice) -> Result<String, AllocError>
-    ensures { IfOk result (λ s. string_bytes s ≡ codes "choice" ++ spaced (brews_of choice.now)) }
-{
-    let mut text = String::from_str(heap, "choice")?;
-    for k in 0..choice.figures().brews() {
-        if choice.has(k + 1) {
-            push_number(heap, &mut text, k + 1)?;
+    fn fmt<W: fmt::Write>(&self, f: &mut fmt::Formatter<W>) -> fmt::Result {
+        for number in self.0 {
+            write!(f, " {number}")?;
         }
+        Ok(())
     }
-    Ok(text)
 }
 
-/// A just envy.
-pub fn envy_text(heap: Global, envy: &Envy) -> Result<String, AllocError>
-    ensures { IfOk result (λ s. string_bytes s ≡ envy_line envy.now) }
-{
-    let taker = envy.taker;
-    let brew = envy.brew;
-    let rival = envy.rival;
-    format!(in heap; "envy taker {taker} brew {brew} rival {rival}")
+/// The brews of a choice, each behind a space.
+#[derive(Clone, Copy)]
+pub struct Opened<'a>(pub &'a Choice);
+
+impl fmt::Display for Opened<'_> {
+    ghost output = { λ opened. Some (spaced (brews_of opened.0.now)) };
+
+    fn fmt<W: fmt::Write>(&self, f: &mut fmt::Formatter<W>) -> fmt::Result {
+        for brew in 1..=self.0.figures().brews() {
+            if self.0.has(brew) {
+                write!(f, " {brew}")?;
+            }
+        }
+        Ok(())
+    }
+}
+
+/// The line of a just envy.
+#[derive(Clone, Copy)]
+pub struct EnvyLine(pub Envy);
+
+impl fmt::Display for EnvyLine {
+    ghost output = { λ line. Some (envy_line line.0) };
+
+    fn fmt<W: fmt::Write>(&self, f: &mut fmt::Formatter<W>) -> fmt::Result {
+        let Envy { taker, brew, rival } = self.0;
+        write!(f, "envy taker {taker} brew {brew} rival {rival}")
+    }
 }

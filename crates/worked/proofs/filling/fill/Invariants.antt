@@ -1,8 +1,7 @@
-use Rattle.std.proofs.Common.{◌≡◌, true, Ok}
-use Rattle.orders.specs.Books.{fits}
-use Rattle.worked.specs.Filled.{filled_to}
+use Rattle.std.proofs.Common.{◌≡◌, drop}
+use Rattle.worked.specs.Filled.{filled_from}
 use Rattle.worked.proofs.filling.fill.Given as goal
 
 abbrev pub invariant-loop-k : goal.invariant-loop-k
 invariant-loop-k g l =
-    (fits l.choosers l.items ≡ true) × (filled_to (g.B.OrderBook.reading l.initial.book) l.choosers l.items l.cards l.k ≡ Ok (g.B.OrderBook.meaning l.book)) × (g.B.OrderBook.reading l.book ≡ g.B.OrderBook.reading l.initial.book)
+    filled_from (g.B.OrderBook.reading l.book) (g.B.OrderBook.meaning l.book) l.k (drop l.k l.cards) ≡ filled_from (g.B.OrderBook.reading l.initial.book) (g.B.OrderBook.meaning l.initial.book) 0 l.cards
