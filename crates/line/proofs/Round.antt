@@ -49,23 +49,20 @@ written l xs x = set xs (place_at l l.count) x
 
 -- What then stands at the line's places.
 module _ {X : Type 0} (l : Line) (xs : List X) (x : X) (long : length xs ≡ l.capacity) (room : l.count < l.capacity) where
-  last_is : (d : X) → get_or (written l xs x) (place_at l l.count) d ≡ get_or (held l xs ++ x ∷ []) l.count d
-  last_is d =
-      let within : place_at l l.count < length xs = rw long (place_within l l.count room) in
-      get_or-set_same xs (place_at l l.count) x d within
-      ∙ sym (get_or_push (held l xs) x d l.count (length_held l xs long))
-
-  others_are : (k : ℕ) (d : X) → k < l.count →
-      get_or (written l xs x) (place_at l k) d ≡ get_or (held l xs ++ x ∷ []) k d
-  others_are k d h =
-      get_or-set_other xs (place_at l l.count) (place_at l k) x d (apart l k l.count h room)
-      ∙ sym (held_at l xs long k d h)
-      ∙ sym (get_or_append_left (held l xs) (x ∷ []) d k (rw (length_held l xs long) h))
-
   all_are : (k : ℕ) (d : X) → k < l.count + 1 →
       get_or (written l xs x) (place_at l k) d ≡ get_or (held l xs ++ x ∷ []) k d
   all_are k d h =
-      ⊎_elim (others_are k d) (λ (le : l.count ≤ k). let e : k ≡ l.count = omega arith in rw e (last_is d)) (cases_lt k l.count)
+      let many : length (held l xs) ≡ l.count = length_held l xs long in
+      ⊎_elim
+      (λ (front : k < l.count).
+      get_or-set_other xs (place_at l l.count) (place_at l k) x d (apart l k l.count front room)
+      ∙ sym (held_at l xs long k d front)
+      ∙ sym (get_or_append_left (held l xs) (x ∷ []) d k (omega arith)))
+      (λ (last : l.count ≤ k).
+      let e : k ≡ l.count = omega arith in
+      let within : place_at l l.count < length xs = rw long (place_within l l.count room) in
+      rw e (get_or-set_same xs (place_at l l.count) x d within ∙ sym (get_or_push (held l xs) x d l.count many)))
+      (cases_lt k l.count)
 
 -- The line s stands over xs as l does, t goes one further than l, and p is the vacant place.
 module _ {X : Type 0} (s l t : Line) (xs : List X) (x : X) (p : ℕ) (over : Over s xs l) (room : l.count < l.capacity)

@@ -80,7 +80,8 @@ impl Line {
         }
     }
 
-    // The line as it stands over `slots`: a new one, unless the slice has its capacity.
+    // The line as it stands over `slots`: a new one, unless the slice has its capacity. A copy,
+    // since a refused put and a take from an empty line leave the line as it was.
     fn over<T: Copy>(&self, slots: &[T]) -> Line
         ensures same { Over self.now slots.now result }
         ensures from { start result slots.now ≡ start self.now slots.now }
