@@ -1,5 +1,5 @@
 -- One entry of a written list, behind entries that are good: the fault it makes, or the places once it is read.
-use Rattle.std.proofs.Common.{◌≡◌, ℕ, ◌+◌, ◌-◌, ◌<◌, ◌≤◌, true, false, List, length, get_or, set, Some, ap, ◌∙◌, subst, arith}
+use Rattle.std.proofs.Common.{◌≡◌, ℕ, ◌+◌, ◌-◌, ◌<◌, ◌≤◌, true, false, eqb, List, length, get_or, set, Some, ap, ◌∙◌, subst, arith}
 use Rattle.std.proofs.lemmas.Bool.Decides.{nat_tests}
 use Rattle.orders.specs.Books.{within}
 use Rattle.orders.specs.declared.fault.CardFault.TheVariants.{OutOfRange, Repeated}
@@ -23,11 +23,14 @@ module _ (items k item : ℕ) (card places : List ℕ) (is : item ≡ entry_at c
     found : get_or places (item - 1) 0 ≡ position (entry_at card) (entry_at card k) k
     found = listed.held (item - 1) (grind (arith, nat_tests)) ∙ ap (λ x. position (entry_at card) x k) named
 
-    pub repeated : k < items → 0 < get_or places (item - 1) 0 → first_fault items card items ≡ Some (Repeated (k + 1))
-    repeated l old = first_repeats items card k items l listed.good inside (omega (arith, found))
+    pub repeated : k < items → eqb (get_or places (item - 1) 0) 0 ≡ false → first_fault items card items ≡ Some (Repeated (k + 1))
+    repeated l old =
+        let some : 0 < get_or places (item - 1) 0 = grind (arith, nat_tests) in
+        first_repeats items card k items l listed.good inside (omega (arith, found))
 
-    pub listed_more : items ≤ length places → get_or places (item - 1) 0 ≡ 0 → ListedTo items card (k + 1) (set places (item - 1) (k + 1))
+    pub listed_more : items ≤ length places → eqb (get_or places (item - 1) 0) 0 ≡ true → ListedTo items card (k + 1) (set places (item - 1) (k + 1))
     listed_more room new =
+        let none : get_or places (item - 1) 0 ≡ 0 = grind (arith, nat_tests) in
         let low : item - 1 < items = grind (arith, nat_tests) in
         record {
           good = first_more items card k listed.good inside (omega (arith, found));

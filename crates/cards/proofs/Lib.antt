@@ -1,3 +1,2 @@
 pub mod Entries
 pub mod Counted
-pub mod Measured

@@ -1,7 +1,8 @@
 -- What is wrong with an entry of a written list, and the first bad entry.
-use Rattle.std.specs.Prelude.{◌≡◌, ℕ, zero, suc, ◌+◌, ◌<◌, ◌≤◌, true, false, cond, List, Some, None, Option, ◌==◌, nat_eq, refl}
+use Rattle.std.specs.Prelude.{◌≡◌, ℕ, zero, suc, ◌+◌, ◌<◌, ◌≤◌, true, false, List, Some, None, Option, refl}
 use Rattle.std.proofs.Common.{sym, ap, subst, ◌∙◌, ⊎_elim, add-one, arith}
-use Rattle.std.proofs.lemmas.Bool.{cases_Bool, cases_eq, cond-true, cond-false, eq-eqb, ne_eqb, eqb-true}
+use Rattle.std.proofs.Math.Nat.{eq-zero-or-pos}
+use Rattle.std.proofs.lemmas.Bool.{cases_Bool, cases_eq}
 use Rattle.std.proofs.lemmas.Bool.Decides.{nat_tests}
 use Rattle.std.specs.Option.{option_or}
 use Rattle.orders.specs.Books.{within}
@@ -15,13 +16,13 @@ module _ (items : ℕ) (card : List ℕ) where
   before k = position (entry_at card) (entry_at card k) k
 
   entry_good : (k : ℕ) → within (entry_at card k) items ≡ true → before k ≡ 0 → entry_fault items card k ≡ None
-  entry_good k inside new = cond-true _ _ _ inside ∙ cond-true _ _ _ (eq-eqb (before k) 0 new)
+  entry_good k inside new = grind (arith, nat_tests)
 
   entry_out : (k : ℕ) → within (entry_at card k) items ≡ false → entry_fault items card k ≡ Some (OutOfRange (k + 1))
-  entry_out k outside = cond-false _ _ _ outside
+  entry_out k outside = grind (arith, nat_tests)
 
   entry_repeats : (k : ℕ) → within (entry_at card k) items ≡ true → 0 < before k → entry_fault items card k ≡ Some (Repeated (k + 1))
-  entry_repeats k inside old = cond-true _ _ _ inside ∙ cond-false _ _ _ (ne_eqb (before k) 0 (λ e. omega arith))
+  entry_repeats k inside old = grind (arith, nat_tests)
 
   pub first_more : (k : ℕ) → first_fault items card k ≡ None → within (entry_at card k) items ≡ true → before k ≡ 0 → first_fault items card (k + 1) ≡ None
   first_more k none inside new =
@@ -46,24 +47,16 @@ module _ (items : ℕ) (card : List ℕ) where
   -- where the first of two is none, and both together are
   first_part : (x y : Option CardFault) → option_or x y ≡ None → (x ≡ None) × (y ≡ None)
   first_part None y e = (refl, e)
-  first_part (Some fault) y e = let z : ◌≡◌ {A = ℕ} 0 1 = cc in absurd (omega arith)
+  first_part (Some fault) y e = absurd (cc)
 
   good_entry : (k : ℕ) → entry_fault items card k ≡ None → (1 ≤ entry_at card k) × (entry_at card k ≤ items) × (before k ≡ 0)
   good_entry k e =
-      let in_turn = cond (before k == 0) None (Some (Repeated (k + 1))) in
       ⊎_elim
       (λ (inside : within (entry_at card k) items ≡ true).
-      ⊎_elim
-      (λ (new : nat_eq (before k) 0 ≡ true). (grind (arith, nat_tests), grind (arith, nat_tests), eqb-true (before k) 0 new))
-      (λ (old : nat_eq (before k) 0 ≡ false).
-      let some : Some (Repeated (k + 1)) ≡ None = sym (cond-false _ _ _ old) ∙ sym (cond-true _ in_turn _ inside) ∙ e in
-      let z : ◌≡◌ {A = ℕ} 0 1 = cc in
-      absurd (omega arith))
-      (cases_Bool (before k == 0)))
-      (λ (outside : within (entry_at card k) items ≡ false).
-      let some : Some (OutOfRange (k + 1)) ≡ None = sym (entry_out k outside) ∙ e in
-      let z : ◌≡◌ {A = ℕ} 0 1 = cc in
-      absurd (omega arith))
+      ⊎_elim (λ (new : before k ≡ 0). (grind (arith, nat_tests), grind (arith, nat_tests), new))
+      (λ (old : 0 < before k). let bad = entry_repeats k inside old in absurd (cc))
+      (eq-zero-or-pos (before k)))
+      (λ (outside : within (entry_at card k) items ≡ false). let bad = entry_out k outside in absurd (cc))
       (cases_Bool (within (entry_at card k) items))
 
   -- a list without a fault: each entry is in range and differs from those before it

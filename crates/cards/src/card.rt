@@ -1,8 +1,7 @@
 //! What the kinds of card share: two bytes for each entry, the higher first.
 
-ghost use Rattle.std.specs.Prelude.{◌≡◌, ◌*◌, ◌<◌, ◌≤◌, false, MatchResult, length};
-ghost use Rattle.orders.specs.declared.fault.CardFault.TheVariants.{Length};
-ghost use Rattle.cards.specs.Readings.{entry_at, measures};
+ghost use Rattle.std.specs.Prelude.{◌≡◌, ◌*◌, ◌<◌, ◌≤◌, length};
+ghost use Rattle.cards.specs.Readings.{entry_at};
 
 use orders::fault::CardFault;
 use orders::limits::MOST;
@@ -17,8 +16,11 @@ pub(crate) struct Card<'a> {
 }
 
 impl<'a> Card<'a> {
+    ghost use Rattle.cards.specs.Steps.{CardMade};
+
+    /// The card for so many items, if these bytes are as long as it asks.
     pub(crate) fn new(bytes: &'a [u8], items: usize) -> Result<Card<'a>, CardFault>
-        ensures { MatchResult result (λ card. (card.items ≡ items) × (card.bytes.now ≡ bytes.now)) (λ fault. (measures items bytes.now ≡ false) × (fault ≡ Length)) }
+        ensures { CardMade items bytes.now result }
     {
         if items > MOST || bytes.len() != 2 * items {
             return Err(CardFault::Length);

@@ -1,8 +1,10 @@
 //! Written lists: the items from best to worst, every item once.
 
-ghost use Rattle.std.specs.Prelude.{◌<◌, ◌≤◌, length};
-ghost use Rattle.cards.specs.Readings.{list_reading};
-ghost use Rattle.cards.specs.Steps.{EntryRead, Listed, ListedTo};
+ghost use Rattle.std.specs.Prelude.{◌≡◌, ◌<◌, ◌≤◌, ◌==◌, length};
+ghost use Rattle.orders.specs.Books.{ReadInto, within};
+ghost use Rattle.orders.specs.declared.fault.CardFault.TheVariants.{OutOfRange, Repeated};
+ghost use Rattle.cards.specs.Readings.{list_or_fault, list_reading};
+ghost use Rattle.cards.specs.Steps.{Checked, EntryRead, Listed, ListedTo};
 ghost use Rattle.cards.specs.Orders.{list_reads_orders};
 
 use crate::card::Card;
@@ -18,6 +20,26 @@ pub struct WrittenList;
 /// An order book of written lists.
 pub type ListBook = CardBook<WrittenList>;
 
+/// Refuses an entry, counted from 1, that names no item.
+fn check_range(card: &Card, item: usize, entry: usize) -> Result<(), CardFault>
+    ensures { Checked (within item card.now.items) (OutOfRange entry) result }
+{
+    if !(1..=card.items()).contains(&item) {
+        return Err(CardFault::OutOfRange { entry });
+    }
+    Ok(())
+}
+
+/// Refuses an entry, counted from 1, whose item has a place already.
+fn check_new(place: u16, entry: usize) -> Result<(), CardFault>
+    ensures { Checked (place == 0) (Repeated entry) result }
+{
+    if place != 0 {
+        return Err(CardFault::Repeated { entry });
+    }
+    Ok(())
+}
+
 /// Reads entry k, counted from 0, behind entries that are good. An item's place is 0 until an entry
 /// names it, so an entry that finds another place there repeats an earlier one.
 fn read_entry(card: &Card, k: usize, places: &mut [u16]) -> Result<(), CardFault>
@@ -27,12 +49,8 @@ fn read_entry(card: &Card, k: usize, places: &mut [u16]) -> Result<(), CardFault
 {
     let entry = k + 1;
     let item = usize::from(card.entry(k));
-    if !(1..=card.items()).contains(&item) {
-        return Err(CardFault::OutOfRange { entry });
-    }
-    if places[item - 1] != 0 {
-        return Err(CardFault::Repeated { entry });
-    }
+    check_range(card, item, entry)?;
+    check_new(places[item - 1], entry)?;
     places[item - 1] = entry as u16;
     Ok(())
 }
@@ -42,10 +60,21 @@ fn places_of(card: &Card) -> Result<[u16; MOST], CardFault>
     ensures { Listed card.now.items card.now.bytes.now result }
 {
     let mut places = [0; MOST];
+    // A range: an entry is read by its place, which a fault tells.
     for k in 0..card.items() {
         read_entry(card, k, &mut places)?;
     }
     Ok(places)
+}
+
+/// Reads a card into a row; a refused card leaves it as it was.
+fn fill_row(card: &Card, row: &mut [u16]) -> Result<(), CardFault>
+    requires { card.now.items ≡ length row.old }
+    ensures { ReadInto (list_or_fault card.now.items card.now.bytes.now) row.old result row.new }
+{
+    let places = places_of(card)?;
+    row.copy_from_slice(&places[..row.len()]);
+    Ok(())
 }
 
 impl CardReader for WrittenList {
@@ -55,8 +84,6 @@ impl CardReader for WrittenList {
 
     fn read(&self, card: &[u8], _chooser: usize, row: &mut [u16]) -> Result<(), CardFault> {
         let card = Card::new(card, row.len())?;
-        let places = places_of(&card)?;
-        row.copy_from_slice(&places[..row.len()]);
-        Ok(())
+        fill_row(&card, row)
     }
 }

@@ -1,22 +1,26 @@
-use Rattle.std.proofs.Common.{◌≡◌, true, false, refl, rules, ◌∙◌, arith}
-use Rattle.orders.specs.Books.{within}
+use Rattle.std.proofs.Common.{Some, sym, refl, ap, ◌∙◌}
+use Rattle.std.proofs.lemmas.Result.{err_from_is_err_and}
 use Rattle.cards.proofs.Entries.{out_of_range, repeated, listed_more}
 use Rattle.cards.proofs.written_list.read_entry.Goals as goal
 
-pub returns-then-not-contains : goal.returns-then-not-contains
-returns-then-not-contains c =
+pub returns-in_err-check_range : goal.returns-in_err-check_range
+returns-in_err-check_range c =
     let card = c.args.card.now in
-    let outside : within c.from-item.result card.items ≡ false = search rules in
-    (out_of_range card.items c.args.k c.from-item.result card.bytes.now c.args.places.now (c.from-item.ensures ∙ c.entry.ensures) c.requires.before.1 c.requires.before.0 outside, refl)
+    let p = err_from_is_err_and c.from_residual.result c.from_residual.ensures.1 in
+    let failed = c.in_err-check_range.ensures in
+    let first = out_of_range card.items c.args.k c.from-item.result card.bytes.now c.args.places.now (c.from-item.ensures ∙ c.entry.ensures) c.requires.before.1 in
+    rw (p.1, p.2) (first c.requires.before.0 failed.0 ∙ ap Some (sym failed.1), refl)
 
-pub returns-then-places-item-ne0 : goal.returns-then-places-item-ne0
-returns-then-places-item-ne0 c =
+pub returns-in_err-check_new : goal.returns-in_err-check_new
+returns-in_err-check_new c =
     let card = c.args.card.now in
-    let inside : within c.from-item.result card.items ≡ true = search rules in
-    (repeated card.items c.args.k c.from-item.result card.bytes.now c.args.places.now (c.from-item.ensures ∙ c.entry.ensures) c.requires.before.1 inside c.requires.before.0 (omega arith), refl)
+    let p = err_from_is_err_and c.from_residual-in_err-check_new.result c.from_residual-in_err-check_new.ensures.1 in
+    let failed = c.in_err-check_new.ensures in
+    let first = repeated card.items c.args.k c.from-item.result card.bytes.now c.args.places.now (c.from-item.ensures ∙ c.entry.ensures) c.requires.before.1 in
+    rw (p.1, p.2) (first c.in_ok-check_range.ensures c.requires.before.0 failed.0 ∙ ap Some (sym failed.1), refl)
 
 pub returns : goal.returns
 returns c =
     let card = c.args.card.now in
-    let inside : within c.from-item.result card.items ≡ true = search rules in
-    listed_more card.items c.args.k c.from-item.result card.bytes.now c.args.places.now (c.from-item.ensures ∙ c.entry.ensures) c.requires.before.1 inside c.requires.room c.if-places-item-ne0.false
+    listed_more card.items c.args.k c.from-item.result card.bytes.now c.args.places.now (c.from-item.ensures ∙ c.entry.ensures) c.requires.before.1
+    c.in_ok-check_range.ensures c.requires.room c.in_ok-check_new.ensures

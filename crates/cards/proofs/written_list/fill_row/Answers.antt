@@ -1,19 +1,15 @@
 use Rattle.std.proofs.Common.{ℕ, ◌+◌, get_or, Ok, sym, ap, ◌∙◌, arith}
 use Rattle.std.proofs.lemmas.List.FromFn.{fill_by_all}
 use Rattle.std.proofs.lemmas.List.{get_or-take}
-use Rattle.std.proofs.lemmas.Bool.{cond-true}
 use Rattle.tally.specs.Tally.{position}
 use Rattle.cards.specs.Readings.{entry_at, list_places, unless}
-use Rattle.cards.proofs.Measured.{measured}
-use Rattle.cards.proofs.written_list.WrittenListCardReader.read.Goals as goal
+use Rattle.cards.proofs.written_list.fill_row.Goals as goal
 
 pub returns : goal.returns
 returns c =
-    let card = c.in_ok-card.card in
-    let made = c.in_ok-card.ensures in
+    let card = c.args.card.now in
     let listed = c.in_ok-places.ensures.1 in
     let after = c.copy_from_slice.ensures.after in
     let places = fill_by_all (λ (i : ℕ). position (entry_at card.bytes.now) (i + 1) card.items) c.copy_from_slice.new.self card.items 0 (omega arith)
     (λ k h. ap (λ ys. get_or ys k 0) after ∙ get_or-take _ c.in_ok-places.places k 0 (omega arith) ∙ listed.held k h) in
-    rw (← made.0, ← made.1)
-    (cond-true _ _ _ (measured card) ∙ ap (λ fault. unless fault (list_places card.items card.bytes.now)) listed.good ∙ ap Ok (sym places))
+    ap (λ fault. unless fault (list_places card.items card.bytes.now)) listed.good ∙ ap Ok (sym places)
