@@ -1,80 +1,93 @@
--- A brew added to the set that a number stands for.
-use Rattle.std.proofs.Common.{◌≡◌, ℕ, zero, suc, ◌+◌, ◌-◌, ◌*◌, ◌%◌, ◌^◌, ◌<◌, ◌≤◌, true, false, ◌||◌, eqb, leb, bit_or, List, ◌∷◌, length, sym, refl, ap, ◌∙◌, subst, ⊎_elim, pow-suc, arith}
-use Rattle.std.proofs.lemmas.Bool.{both_ways, cases_Bool, cases_eq, leb-true, leb-false}
+-- A brew added to a set: its bit is set.
+use Rattle.std.proofs.Common.{◌≡◌, ℕ, ◌+◌, ◌-◌, ◌*◌, ◌/◌, ◌%◌, ◌^◌, ◌<◌, ◌≤◌, true, false, ◌||◌, eqb, bit_or, length, sym, ap, ◌∙◌, ⊎_elim, pow_pos, arith}
+use lib.Count.{ones, ones_cat, ones-ones}
+use Rattle.std.specs.Int.{bit_at, w32}
+use Rattle.std.proofs.Math.Pow.{pow-lt}
+use Rattle.std.proofs.Math.Nat.{mod-lt}
+use Rattle.std.proofs.lemmas.Nat.{one_shl, or_disjoint, or_lt, shr_split}
+use Rattle.std.proofs.lemmas.Nat.Bits.{and_pow, bit_at-lt, bit_at_set_same, bit_at_set_other}
+use Rattle.std.proofs.lemmas.Bool.{cases_Bool, cases_eq}
 use Rattle.std.proofs.lemmas.Bool.Decides.{nat_tests}
-use Rattle.std.specs.Int.{bit_at}
-use Rattle.std.proofs.lemmas.Nat.{one_shl, or_disjoint}
-use Rattle.std.proofs.lemmas.Nat.Bits.{and_pow, bit_at-lt, shr_and_one}
+use Rattle.orders.specs.Books.{within}
 use Rattle.fair.specs.Choices.{among}
-use Rattle.fair.proofs.Choosing.{among_first}
 use Rattle.choices.specs.declared.brew_set.BrewSet.{BrewSet}
 use Rattle.choices.specs.Bits.{brews_in}
 use Rattle.choices.specs.BrewSets.{Added, members}
-use Rattle.choices.proofs.Sets.{among_bits, with_first, without_first}
+use Rattle.choices.proofs.Numbered.{length_ones}
+use Rattle.choices.proofs.Sets.{among_bit, among_outside}
 
--- ys has what xs has, and c, which xs had not
-abbrev AddedTo : List ℕ → ℕ → List ℕ → Type 0
-AddedTo xs c ys = (length ys ≡ length xs + 1) × ((d : ℕ) → among ys d ≡ (eqb c d || among xs d))
-
-added_at : (c : ℕ) (xs ys xs' ys' : List ℕ) → xs ≡ xs' → ys ≡ ys' → AddedTo xs' c ys' → AddedTo xs c ys
-added_at c xs ys xs' ys' e e' h = subst (λ zs. AddedTo zs c ys) (sym e) (subst (AddedTo xs' c) (sym e') h)
-
-added_behind : (x : ℕ) (xs ys : List ℕ) (c : ℕ) → AddedTo xs c ys → AddedTo (x ∷ xs) c (x ∷ ys)
-added_behind x xs ys c h = (omega (arith, h.0), λ d. let e = h.1 d in grind (arith, nat_tests))
-
-added_bits : (low n high bits c : ℕ) → low + n ≡ high → bits < 2 ^ n → low < c → c ≤ high → among (brews_in low n bits) c ≡ false
-    → (bits + 2 ^ (high - c) < 2 ^ n) × AddedTo (brews_in low n bits) c (brews_in low n (bits + 2 ^ (high - c)))
-added_bits low zero high bits c e inside above below new = absurd (omega arith)
-added_bits low (suc n) high bits c e inside above below new =
-    let two = pow-suc 2 n in
-    let p = 2 ^ (high - c) in
-    let rest : (r : ℕ) → r < 2 ^ n → (c ≡ low + 1 → ⊥) → among (brews_in (low + 1) n r) c ≡ false
-    → (r + p < 2 ^ n) × AddedTo (brews_in (low + 1) n r) c (brews_in (low + 1) n (r + p)) =
-    λ r l ne new. added_bits (low + 1) n high r c (omega arith) l (omega arith) below new in
-    ⊎_elim
-    (λ (set : leb (2 ^ n) bits ≡ true).
-    let le = leb-true (2 ^ n) bits set in
-    let r = bits - 2 ^ n in
-    let is : bits ≡ r + 2 ^ n = omega arith in
-    let l : r < 2 ^ n = omega arith in
-    let whole : brews_in low (suc n) bits ≡ (low + 1) ∷ brews_in (low + 1) n r = ap (brews_in low (suc n)) is ∙ with_first low n r l in
-    let new' : among ((low + 1) ∷ brews_in (low + 1) n r) c ≡ false = subst (λ xs. among xs c ≡ false) whole new in
-    let ne : c ≡ low + 1 → ⊥ = λ same. both_ways _ new' (subst (λ d. among ((low + 1) ∷ brews_in (low + 1) n r) d ≡ true) (sym same) (among_first (low + 1) _)) in
-    let later : among (brews_in (low + 1) n r) c ≡ false = grind (arith, nat_tests) in
-    let h = rest r l ne later in
-    let more : bits + p ≡ (r + p) + 2 ^ n = omega arith in
-    (omega (arith, h.0), added_at c _ _ _ _ whole (ap (brews_in low (suc n)) more ∙ with_first low n (r + p) h.0) (added_behind (low + 1) _ _ c h.1)))
-    (λ (clear : leb (2 ^ n) bits ≡ false).
-    let l = leb-false (2 ^ n) bits clear in
-    let whole = without_first low n bits l in
-    ⊎_elim
-    (λ (first : c ≡ low + 1).
-    let place : p ≡ 2 ^ n = ap (λ k. 2 ^ k) (omega arith) in
-    (omega arith, added_at c _ _ _ _ whole (ap (λ x. brews_in low (suc n) (bits + x)) place ∙ with_first low n bits l ∙ ap (λ d. d ∷ brews_in (low + 1) n bits) (sym first)) (omega arith, λ d. refl)))
-    (λ (ne : c ≡ low + 1 → ⊥).
-    let h = rest bits l ne (subst (λ xs. among xs c ≡ false) whole new) in
-    (omega (arith, h.0), added_at c _ _ _ _ whole (without_first low n (bits + p) h.0) h.1))
-    (cases_eq c (low + 1)))
-    (cases_Bool (leb (2 ^ n) bits))
-
--- the bit of a brew that a set has not is not set, so that putting it in adds it
-module _ (s : BrewSet) (brew : ℕ) (above : 0 < brew) (below : brew ≤ s.brews) (new : among (members s) brew ≡ false) where
+module _ (s : BrewSet) (brew : ℕ) (above : 0 < brew) (below : brew ≤ s.brews) where
   abbrev place : ℕ
   place = s.brews - brew
 
-  put_in : bit_or s.bits (1 * 2 ^ place % 2 ^ 32) ≡ s.bits + 2 ^ place
-  put_in =
-      let clear : eqb (bit_at s.bits place) 1 ≡ false = ap (λ b. eqb b 1) (sym (shr_and_one s.bits place)) ∙ sym (among_bits s.brews s.bits brew s.inside above below) ∙ new in
-      let none : bit_at s.bits place ≡ 0 = grind (arith, nat_tests, bit_at-lt s.bits place) in
-      rw (one_shl place 32 (omega (arith, s.few_brews))) (or_disjoint s.bits (2 ^ place) (and_pow s.bits place ∙ ap (λ b. b * 2 ^ place) none ∙ omega arith))
+  abbrev after : ℕ
+  after = bit_or s.bits (1 * 2 ^ place % 2 ^ 32)
 
-  more : (s.bits + 2 ^ place < 2 ^ s.brews) × AddedTo (members s) brew (brews_in 0 s.brews (s.bits + 2 ^ place))
-  more = added_bits 0 s.brews s.brews s.bits brew (omega arith) s.inside above below new
+  narrow : place < 32
+  narrow = omega (arith, s.few_brews)
 
-  pub insert_fits : bit_or s.bits (1 * 2 ^ (s.brews - brew) % 2 ^ 32) < 2 ^ s.brews
-  insert_fits = omega (arith, put_in, more.0)
+  pub insert_fits : after < 2 ^ s.brews
+  insert_fits = or_lt s.brews s.bits (1 * 2 ^ place % 2 ^ 32) s.inside (rw (one_shl place 32 narrow) (pow-lt (omega arith)))
 
-  pub added : (t : BrewSet) → t.brews ≡ s.brews → t.bits ≡ bit_or s.bits (1 * 2 ^ (s.brews - brew) % 2 ^ 32) → Added s brew t
-  added t round bits =
-      let is : members t ≡ brews_in 0 s.brews (s.bits + 2 ^ place) = cc (round, bits, put_in) in
-      record { round = round; larger = ap length is ∙ more.1.0; held = λ c. ap (λ xs. among xs c) is ∙ more.1.1 c }
+  -- the set has the brews that it had, and the one
+  held : (c : ℕ) → among (brews_in 0 s.brews after) c ≡ (eqb brew c || among (members s) c)
+  held c =
+      ⊎_elim
+      (λ (in' : within c s.brews ≡ true).
+      let low : 0 < c = grind (arith, nat_tests) in
+      let high : c ≤ s.brews = grind (arith, nat_tests) in
+      let then = among_bit s.brews after c insert_fits low high in
+      let first = among_bit s.brews s.bits c s.inside low high in
+      ⊎_elim
+      (λ (same : c ≡ brew).
+      let bit : bit_at after (s.brews - c) ≡ 1 = ap (λ d. bit_at after (s.brews - d)) same ∙ bit_at_set_same w32 s.bits place narrow in
+      grind (arith, nat_tests))
+      (λ (other : c ≡ brew → ⊥).
+      let bit : bit_at after (s.brews - c) ≡ bit_at s.bits (s.brews - c) = bit_at_set_other w32 s.bits place narrow (s.brews - c) (omega arith) in
+      grind (arith, nat_tests))
+      (cases_eq c brew))
+      (λ (out : within c s.brews ≡ false).
+      let then = among_outside s.brews after c out in
+      let first = among_outside s.brews s.bits c out in
+      grind (arith, nat_tests))
+      (cases_Bool (within c s.brews))
+
+  module _ (new : among (members s) brew ≡ false) where
+    clear : bit_at s.bits place ≡ 0
+    clear = let e = among_bit s.brews s.bits brew s.inside above below in grind (arith, nat_tests, bit_at-lt s.bits place)
+
+    sum : after ≡ s.bits + 2 ^ place
+    sum = rw (one_shl place 32 narrow) (or_disjoint s.bits (2 ^ place) (and_pow s.bits place ∙ ap (λ b. b * 2 ^ place) clear ∙ omega arith))
+
+    -- one bit more is set
+    one_more : ones after ≡ ones s.bits + 1
+    one_more =
+        let q = s.bits / 2 ^ place in
+        let r = s.bits % 2 ^ place in
+        let split = shr_split s.bits place in
+        let small = mod-lt s.bits (pow_pos place) in
+        let even : q / 2 * 2 ^ 1 + 0 ≡ q = omega (arith, clear) in
+        let odd : q / 2 * 2 ^ 1 + 1 ≡ q + 1 = omega (arith, clear) in
+        let whole : (q + 1) * 2 ^ place + r ≡ after = omega (arith, sum, split) in
+        omega (
+          arith,
+          ap ones split,
+          ap ones whole,
+          ones_cat place q r small,
+          ones_cat place (q + 1) r small,
+          ap ones even,
+          ap ones odd,
+          ones_cat 1 (q / 2) 0 (omega arith),
+          ones_cat 1 (q / 2) 1 (omega arith),
+          ones-ones 0,
+          ones-ones 1,
+        )
+
+    pub added : (t : BrewSet) → t.brews ≡ s.brews → t.bits ≡ after → Added s brew t
+    added t round bits =
+        let is : members t ≡ brews_in 0 s.brews after = cc (round, bits) in
+        record {
+          round = round;
+          larger = ap length is ∙ length_ones 0 s.brews after insert_fits ∙ one_more ∙ ap (λ n. n + 1) (sym (length_ones 0 s.brews s.bits s.inside));
+          held = λ c. ap (λ xs. among xs c) is ∙ held c;
+        }

@@ -1,9 +1,9 @@
 -- Where a choice stands in the order of the choices, by its number.
 use Rattle.std.proofs.Common.{◌≡◌, ℕ, zero, suc, ◌+◌, ◌-◌, ◌^◌, ◌<◌, ◌≤◌, Bool, true, false, cond, List, [], ◌∷◌, map, length, count_by, eqb, get_or, drop, Some, None, Option, sym, refl, ap, ◌∙◌, subst, ⊎_elim, arith}
 use Rattle.std.specs.List.{range_with_len}
-use Rattle.std.proofs.lemmas.List.{get_or-map, length-append, length-drop, length-map}
+use Rattle.std.proofs.lemmas.List.{drop-drop, get_or-drop, get_or-map, length-append, length-drop, length-map}
 use Rattle.std.proofs.lemmas.List.Sums.{sum_by-cons}
-use Rattle.std.proofs.lemmas.Bool.{cases_Bool, cases_eq, cond-true, cond-false, eq-eqb}
+use Rattle.std.proofs.lemmas.Bool.{cases_Bool, cond-true, cond-false, eq-eqb}
 use Rattle.std.proofs.lemmas.Bool.Decides.{nat_tests}
 use Rattle.fair.specs.Choices.{choice_at, choices, picks}
 use Rattle.fair.proofs.Listing.{choices_listed}
@@ -15,7 +15,12 @@ use Rattle.choices.specs.Rounds.{figures_of}
 use Rattle.choices.specs.Order.{choices_from, FoundFirst, HighestBelow, NextOf, StandsAt, choices_below, is_choice, passing}
 use Rattle.choices.proofs.Numbered.{length_ones, listed_map, picks_listed}
 
--- the numbers below b are the last of those below m
+-- what stands where a part of a list begins
+part_begins : (xs : List ℕ) (i b : ℕ) (rest : List ℕ) → drop i xs ≡ b ∷ rest → (i < length xs) × (get_or xs i 0 ≡ b) × (drop (i + 1) xs ≡ rest)
+part_begins xs i b rest e =
+    (omega (arith, length-drop i xs, ap length e), ap (λ k. get_or xs k 0) {x = i} {y = i + 0} (omega arith) ∙ sym (get_or-drop i xs 0 0) ∙ ap (λ ys. get_or ys 0 0) e, sym (drop-drop 1 i xs) ∙ ap (drop 1) e)
+
+-- the numbers below m that pass a test: behind those from b on stand those below b
 
 module _ (p : ℕ → Bool) where
   pub passing_yes : (b m : ℕ) → suc b ≡ m → p b ≡ true → passing p m ≡ b ∷ passing p b
@@ -24,46 +29,25 @@ module _ (p : ℕ → Bool) where
   pub passing_no : (b m : ℕ) → suc b ≡ m → p b ≡ false → passing p m ≡ passing p b
   passing_no b m is fail = ap (passing p) (sym is) ∙ cond-false _ _ _ fail
 
-  abbrev Last : ℕ → ℕ → Type 0
-  Last b m = (i : ℕ) × (i + length (passing p b) ≡ length (passing p m)) × (drop i (passing p m) ≡ passing p b)
+  abbrev Behind : ℕ → ℕ → ℕ → Type 0
+  Behind b m k = (k + length (passing p b) ≡ length (passing p m)) × (drop k (passing p m) ≡ passing p b)
 
-  itself : (b m : ℕ) → b ≡ m → Last b m
-  itself b m e = (0, omega (arith, ap (λ k. length (passing p k)) e), ap (passing p) (sym e))
-
-  last : (b m : ℕ) → b ≤ m → Last b m
-  last b zero le = itself b 0 (omega arith)
-  last b (suc m) le =
-      ⊎_elim (itself b (suc m))
-      (λ (ne : b ≡ suc m → ⊥).
-      let rest = last b m (omega arith) in
+  behind_from : (n b m : ℕ) → b + n ≡ m → Behind b m (count_by p (range_with_len b n))
+  behind_from zero b m e = let is : b ≡ m = omega arith in (omega (arith, ap (λ k. length (passing p k)) is), ap (passing p) (sym is))
+  behind_from (suc n) b m e =
+      let k = count_by p (range_with_len (b + 1) n) in
+      let rest = behind_from n (b + 1) m (omega arith) in
+      let step = sum_by-cons (λ x. cond (p x) 1 0) b (range_with_len (b + 1) n) in
       ⊎_elim
-      (λ (pass : p m ≡ true).
-      let e = passing_yes m (suc m) refl pass in
-      (suc rest.0, omega (arith, rest.1, ap length e), ap (drop (suc rest.0)) e ∙ rest.2))
-      (λ (fail : p m ≡ false).
-      let e = passing_no m (suc m) refl fail in
-      (rest.0, omega (arith, rest.1, ap length e), ap (drop rest.0) e ∙ rest.2))
-      (cases_Bool (p m)))
-      (cases_eq b (suc m))
-
-  -- those from b on and those below b are all of them
-  pub passing_from : (n b : ℕ) → count_by p (range_with_len b n) + length (passing p b) ≡ length (passing p (b + n))
-  passing_from zero b = omega (arith, ap (λ m. length (passing p m)) {x = b} {y = b + 0} (omega arith))
-  passing_from (suc n) b =
-      let rest = passing_from n (b + 1) in
-      let here : count_by p (range_with_len b (suc n)) ≡ cond (p b) 1 0 + count_by p (range_with_len (b + 1) n) = sum_by-cons (λ x. cond (p x) 1 0) b (range_with_len (b + 1) n) in
-      let end = ap (λ m. length (passing p m)) {x = b + 1 + n} {y = b + suc n} (omega arith) in
-      ⊎_elim
-      (λ (pass : p b ≡ true). let e = ap length (passing_yes b (b + 1) (omega arith) pass) in grind (arith, nat_tests))
-      (λ (fail : p b ≡ false). let e = ap length (passing_no b (b + 1) (omega arith) fail) in grind (arith, nat_tests))
+      (λ (pass : p b ≡ true).
+      let e = passing_yes b (b + 1) (omega arith) pass in
+      let one : k + 1 ≡ count_by p (range_with_len b (suc n)) = grind (arith, nat_tests) in
+      subst (Behind b m) one (omega (arith, rest.0, ap length e), (part_begins (passing p m) k b (passing p b) (rest.1 ∙ e)).2))
+      (λ (fail : p b ≡ false).
+      let e = passing_no b (b + 1) (omega arith) fail in
+      let none : k ≡ count_by p (range_with_len b (suc n)) = grind (arith, nat_tests) in
+      subst (Behind b m) none (omega (arith, rest.0, ap length e), rest.1 ∙ e))
       (cases_Bool (p b))
-
--- what stands where a part of a list begins
-part_begins : (xs : List ℕ) (i b : ℕ) (rest : List ℕ) → drop i xs ≡ b ∷ rest → (i < length xs) × (get_or xs i 0 ≡ b) × (drop (suc i) xs ≡ rest)
-part_begins [] zero b rest e = let z : ◌≡◌ {A = ℕ} 0 1 = cc in absurd (omega arith)
-part_begins [] (suc i) b rest e = let z : ◌≡◌ {A = ℕ} 0 1 = cc in absurd (omega arith)
-part_begins (x ∷ xs) zero b rest e = (omega arith, cc, cc)
-part_begins (x ∷ xs) (suc i) b rest e = let h = part_begins xs i b rest e in (omega (arith, h.0), h.1, h.2)
 
 -- a list has a part with as many entries or fewer
 some_picks : (k n low : ℕ) → k ≤ n → 0 < length (picks k (range_with_len low n))
@@ -110,9 +94,9 @@ module _ (c : Choice) where
 
   here : (i : ℕ) × (i + suc (length (choices_below f c.bits)) ≡ length (all f)) × (drop i (all f) ≡ c.bits ∷ choices_below f c.bits)
   here =
-      let h = last (is_choice f) (suc c.bits) (2 ^ f.brews) c.inside in
+      let h = behind_from (is_choice f) (2 ^ f.brews - suc c.bits) (suc c.bits) (2 ^ f.brews) (omega (arith, c.inside)) in
       let e = passing_yes (is_choice f) c.bits (suc c.bits) refl (eq-eqb _ _ (sym (length_ones 0 f.brews c.bits c.inside) ∙ c.size)) in
-      (h.0, omega (arith, h.1, ap length e), h.2 ∙ e)
+      (_, omega (arith, h.0, ap length e), h.1 ∙ e)
 
   stands_here : At here.0
   stands_here = stands f here.0 c.bits _ here.2
@@ -120,12 +104,12 @@ module _ (c : Choice) where
   only_here : (i : ℕ) → At i → i ≡ here.0
   only_here i at = (choices_listed (figures_of f)).once i here.0 at.0 stands_here.0 (at.1 ∙ sym stands_here.1)
 
-  behind : drop (suc here.0) (all f) ≡ choices_below f c.bits
+  behind : drop (here.0 + 1) (all f) ≡ choices_below f c.bits
   behind = (part_begins (all f) here.0 c.bits _ here.2).2
 
   -- how many have the number of a choice or a higher one is its ordinal
   counting : choices_from f c.bits + length (choices_below f c.bits) ≡ length (all f)
-  counting = passing_from (is_choice f) (2 ^ f.brews - c.bits) c.bits ∙ ap (λ m. length (choices_below f m)) (omega arith)
+  counting = (behind_from (is_choice f) (2 ^ f.brews - c.bits) c.bits (2 ^ f.brews) (omega (arith, c.inside))).0
 
   pub some_counted : 0 < choices_from f c.bits
   some_counted = omega (arith, counting, here.1)
@@ -141,12 +125,12 @@ module _ (c : Choice) where
 
   pub next : (found : Option Choice) → HighestBelow f c.bits found → NextOf c found
   next (Some d) (same, below, e) =
-      let h = stands f (suc here.0) d.bits _ (behind ∙ e) in (
+      let h = stands f (here.0 + 1) d.bits _ (behind ∙ e) in (
         same,
         below,
         λ i at.
-            let is : suc here.0 ≡ i + 1 = omega (arith, only_here i at) in
+            let is : here.0 + 1 ≡ i + 1 = omega (arith, only_here i at) in
             subst (λ j. StandsAt (figures_of f) j (brews_of d)) is (h.0, h.1 ∙ ap (λ g. brews_in 0 g.brews d.bits) (sym same)),
       )
   next None none = λ i at.
-      omega (arith, only_here i at, as_many f, stands_here.0, length-drop (suc here.0) (all f), ap length (behind ∙ none))
+      omega (arith, only_here i at, as_many f, stands_here.0, length-drop (here.0 + 1) (all f), ap length (behind ∙ none))

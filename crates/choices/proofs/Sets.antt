@@ -72,6 +72,9 @@ among_digits low (suc n) high bits c e inside above below =
     (λ (ne : c ≡ low + 1 → ⊥). rest bits l ne)
     (cases_eq c (low + 1)))
 
-pub among_bits : (n bits c : ℕ) → bits < 2 ^ n → 0 < c → c ≤ n → among (brews_in 0 n bits) c ≡ eqb (bit_and (bits / 2 ^ (n - c)) 1) 1
-among_bits n bits c inside above below =
-    among_digits 0 n n bits c (omega arith) inside above below ∙ ap (λ b. eqb b 1) (sym (shr_and_one bits (n - c)))
+pub among_bit : (n bits c : ℕ) → bits < 2 ^ n → 0 < c → c ≤ n → among (brews_in 0 n bits) c ≡ eqb (bit_at bits (n - c)) 1
+among_bit n bits c inside above below = among_digits 0 n n bits c (omega arith) inside above below
+
+-- the same of the bit as it is read
+pub among_read : (n bits c : ℕ) → bits < 2 ^ n → 0 < c → c ≤ n → among (brews_in 0 n bits) c ≡ eqb (bit_and (bits / 2 ^ (n - c)) 1) 1
+among_read n bits c inside above below = among_bit n bits c inside above below ∙ ap (λ b. eqb b 1) (sym (shr_and_one bits (n - c)))

@@ -2,6 +2,8 @@
 
 ghost use Rattle.std.specs.Prelude.{◌≡◌, ◌^◌, ◌<◌, ◌≤◌, IsTrue, IsFalse, false, []};
 
+use crate::figures::Figures;
+
 /// Some of the brews of a round, kept as the bits of one number, the highest of which is for brew 1.
 #[derive(Clone, Copy)]
 pub(crate) struct BrewSet {
@@ -15,18 +17,20 @@ impl BrewSet {
     ghost use Rattle.choices.specs.BrewSets.{Added, is_new, members};
     ghost use Rattle.fair.specs.Choices.{among};
 
-    /// None of so many brews.
+    /// None of the brews of a round.
     #[tactic(auto, using(crate::proofs::Sets::none_in_zero))]
-    pub(crate) fn new(brews: usize) -> Self
-        requires { brews ≤ 16 }
-        ensures brews { result.brews ≡ brews }
+    pub(crate) fn new(figures: Figures) -> Self
+        ensures round { result.brews ≡ figures.brews }
         ensures none { members result ≡ [] }
     {
-        BrewSet { brews, bits: 0 }
+        BrewSet {
+            brews: figures.brews(),
+            bits: 0,
+        }
     }
 
     /// Whether a brew is one of the set: asked of any number.
-    #[tactic(auto, using(crate::proofs::Sets::among_bits, crate::proofs::Sets::among_outside))]
+    #[tactic(auto, using(crate::proofs::Sets::among_read, crate::proofs::Sets::among_outside))]
     pub(crate) fn has(&self, brew: usize) -> bool
         ensures { result ≡ among (members self.now) brew }
     {

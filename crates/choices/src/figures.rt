@@ -30,11 +30,10 @@ impl Figures {
     pub fn new(brews: usize, opened: usize, lots: usize) -> Option<Figures>
         ensures { Made brews opened lots result }
     {
-        let kept = (1..=BREWS).contains(&brews)
-            && (1..=OPENED).contains(&opened)
-            && opened <= brews
-            && (1..=LOTS).contains(&lots);
-        if !kept {
+        if !(1..=BREWS).contains(&brews) || !(1..=OPENED).contains(&opened) {
+            return None;
+        }
+        if opened > brews || !(1..=LOTS).contains(&lots) {
             return None;
         }
         Some(Figures {

@@ -11,7 +11,7 @@ use crate::figures::Figures;
 fn gather(figures: Figures, list: &[u8]) -> Result<BrewSet, ChoiceFault>
     ensures { Gathered figures.brews list.now result }
 {
-    let mut set = BrewSet::new(figures.brews());
+    let mut set = BrewSet::new(figures);
     for (k, &brew) in list.iter().enumerate() {
         if !set.insert(usize::from(brew)) {
             return Err(ChoiceFault::Entry { entry: k + 1 });
