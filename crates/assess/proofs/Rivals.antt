@@ -4,7 +4,11 @@ use Rattle.std.proofs.lemmas.Bool.{and_left, and_parts, both_ways, cases_eq, eq-
 use Rattle.fair.specs.Allotments.{brew_of, justly_envies, Fair}
 use Rattle.fair.specs.Markets.{Market}
 use Rattle.fair.specs.Proposals.{Envious, Lowest}
-use Rattle.assess.specs.Envying.{envies_rival, EnviesNone}
+use Rattle.assess.specs.Envying.{envies_rival}
+
+-- taker s justly envies none of the first n takers
+abbrev pub EnviesNone : Market → List ℕ → ℕ → ℕ → Type 0
+EnviesNone w a n s = (t : ℕ) → t < n → envies_rival w a s t ≡ false
 
 module _ (w : Market) (a : List ℕ) where
   abbrev takers : ℕ
