@@ -10,7 +10,7 @@ use Rattle.fair.specs.Allotments.{brew_of}
 use Rattle.orders.specs.Books.{within}
 use Rattle.assess.specs.Lots.{CountsTo}
 
-module _ (brews : ℕ) (a : List ℕ) (n : ℕ) (counts : List ℕ) (before : CountsTo brews a n counts) (few : brews ≤ 16) where
+module _ {brews : ℕ} {a : List ℕ} {n : ℕ} {counts : List ℕ} (before : CountsTo brews a n counts) (few : brews ≤ 16) where
   -- entry s is brew c
   abbrev is : ℕ → ℕ → Bool
   is c s = eqb (brew_of a s) c
@@ -65,8 +65,8 @@ tally_past p i (suc n) none =
     ap (tally p) (add-suc i n) ∙ ap (tally p) (sym (add-one (i + n))) ∙ tally_more_no p (i + n) (none (i + n) (omega arith) (omega arith)) ∙ tally_past p i n (λ k l m. none k l (omega arith))
 
 -- the numbers past the end of the list are of no brew
-pub all_counted : (brews : ℕ) (a : List ℕ) (n i : ℕ) (counts : List ℕ) → i ≡ length (take n a) → CountsTo brews a i counts → CountsTo brews a n counts
-all_counted brews a n i counts all before =
+pub all_counted : {brews : ℕ} {a : List ℕ} {i : ℕ} {counts : List ℕ} (n : ℕ) → i ≡ length (take n a) → CountsTo brews a i counts → CountsTo brews a n counts
+all_counted {a = a} {i = i} n all before =
     let rest : n ≡ i + (n - i) = omega (arith, all, length-take n a) in
     record {
       each = before.each;

@@ -11,18 +11,27 @@ use Rattle.fair.specs.Allotments.{gains, Better}
 use Rattle.fair.proofs.Comparing.{is_better, better_from_test, test_from_better}
 use Rattle.assess.specs.Compared.{own_place, gains_to, GainsWithoutLoss}
 
-module _ (book : Meaning) (a b : List ℕ) (n higher next : ℕ) where
-  -- the first n takers: none lost, and so many gained
-  abbrev Counted : ℕ → ℕ → Type 0
-  Counted k h = (gains_to book b a k ≡ 0) × (h ≡ gains_to book a b k) × (h ≤ k)
+-- Of the first n takers none is lower in a than in b, and so many are higher.
+pub record Counted (book : Meaning) (a b : List ℕ) (n higher : ℕ) : Type 0 where
+  pub none_lower : gains_to book b a n ≡ 0
+  pub gained : higher ≡ gains_to book a b n
+  pub few : higher ≤ n
 
-  pub gains_less : Counted n higher → own_place book a n < own_place book b n → next ≡ higher + 1 → Counted (n + 1) next
-  gains_less before less is =
-      (tally_more_no _ n (le-ltb _ _ (omega arith)) ∙ before.0, omega (arith, before.1, tally_more_yes (λ s. ltb (own_place book a s) (own_place book b s)) n (lt-ltb _ _ less)), omega arith)
+pub gains_less : {book : Meaning} {a b : List ℕ} {n higher next : ℕ} → Counted book a b n higher → own_place book a n < own_place book b n → next ≡ higher + 1 → Counted book a b (n + 1) next
+gains_less {book} {a} {b} {n} before less is =
+    record {
+      none_lower = tally_more_no _ n (le-ltb _ _ (omega arith)) ∙ before.none_lower;
+      gained = omega (arith, before.gained, tally_more_yes (λ s. ltb (own_place book a s) (own_place book b s)) n (lt-ltb _ _ less));
+      few = omega (arith, before.few);
+    }
 
-  pub gains_equal : Counted n higher → own_place book a n ≡ own_place book b n → next ≡ higher → Counted (n + 1) next
-  gains_equal before equal is =
-      (tally_more_no _ n (le-ltb _ _ (omega arith)) ∙ before.0, omega (arith, before.1, tally_more_no (λ s. ltb (own_place book a s) (own_place book b s)) n (le-ltb _ _ (omega arith))), omega arith)
+pub gains_equal : {book : Meaning} {a b : List ℕ} {n higher next : ℕ} → Counted book a b n higher → own_place book a n ≡ own_place book b n → next ≡ higher → Counted book a b (n + 1) next
+gains_equal {book} {a} {b} {n} before equal is =
+    record {
+      none_lower = tally_more_no _ n (le-ltb _ _ (omega arith)) ∙ before.none_lower;
+      gained = omega (arith, before.gained, tally_more_no (λ s. ltb (own_place book a s) (own_place book b s)) n (le-ltb _ _ (omega arith)));
+      few = omega (arith, before.few);
+    }
 
 module _ (w : Market) (a b : List ℕ) where
   decides : (r : Bool) → r ≡ is_better w a b → Decides r (Better w a b)

@@ -1,4 +1,3 @@
-pub mod Lowests
 pub mod Counting
 pub mod Gains
 pub mod Ordered

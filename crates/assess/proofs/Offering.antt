@@ -1,7 +1,8 @@
 -- Records offered to a line one by one.
-use Rattle.std.proofs.Common.{◌≡◌, ℕ, zero, suc, ◌+◌, ◌-◌, ◌<◌, ◌≤◌, List, [], ◌∷◌, ◌++◌, length, get_or, take, drop, set, Ok, Err, Result, sym, refl, ap, ◌∙◌, subst, add-one, arith}
+use Rattle.std.proofs.Common.{◌≡◌, ℕ, ◌+◌, ◌-◌, ◌<◌, ◌≤◌, List, [], ◌∷◌, ◌++◌, length, get_or, take, drop, set, Ok, Err, Result, sym, refl, ap, ◌∙◌, subst, add-one, arith}
 use Rattle.std.proofs.lemmas.List.{append_assoc, append-nil, drop_more, length-append, length-drop, length_push, length-take, set_at, take_all, take-append-le}
 use Rattle.std.proofs.lemmas.Bool.{cond_both}
+use Rattle.std.proofs.Math.Seq.{take-nil}
 use Rattle.line.proofs.Round.{vacant_from_first}
 use Rattle.line.specs.Waiting.{held, start, vacant, Begun, Put, PutDone, PutRefused}
 use Rattle.line.specs.declared.fault.LineFault.{LineFault}
@@ -9,16 +10,12 @@ use Rattle.line.specs.declared.ring.Line.{Line}
 use Rattle.assess.specs.EnvyList.{gathered, Offered, OffersMore, OffersAll}
 use Rattle.assess.specs.declared.envy.Envy.{Envy}
 
-take_none : (n : ℕ) → take {A = Envy} n [] ≡ []
-take_none zero = refl
-take_none (suc n) = refl
-
 -- To an emptied line nothing is offered yet.
 pub none_offered : (before : List Envy) (line : Line) → Begun 0 line → Offered before [] line before
 none_offered before line begun =
     record {
-      holds = cond_both _ _ _ (λ v. v ≡ []) (λ _. ap (λ k. take k (drop line.head (before ++ before))) begun.none) (λ _. refl) ∙ sym (take_none (length before));
-      stand = ap (λ k. k ++ drop (length k) before) (sym (take_none (length before)));
+      holds = cond_both _ _ _ (λ v. v ≡ []) (λ _. ap (λ k. take k (drop line.head (before ++ before))) begun.none) (λ _. refl) ∙ sym (take-nil (length before));
+      stand = ap (λ k. k ++ drop (length k) before) (sym (take-nil (length before)));
       first = cond_both _ _ _ (λ v. v ≡ 0) (λ _. begun.first) (λ _. refl);
     }
 

@@ -6,7 +6,10 @@ use Rattle.std.proofs.lemmas.Bool.Decides.{nat_tests}
 use Rattle.orders.specs.Books.{Meaning, Sound, place_in, within}
 use Rattle.fair.specs.FromBooks.{AllOrdered}
 use Rattle.fair.specs.Proposals.{Lowest}
-use Rattle.assess.specs.Missing.{HasOrder, Orderless, WithoutOrder}
+use Rattle.assess.specs.Missing.{Orderless, WithoutOrder}
+
+abbrev pub HasOrder : Meaning → ℕ → Type 0
+HasOrder book k = (places : List ℕ) × (book.order k ≡ Some places)
 
 module _ (book : Meaning) where
   not_both : (k : ℕ) → HasOrder book k → Orderless book k → ⊥

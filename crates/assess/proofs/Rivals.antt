@@ -4,8 +4,11 @@ use Rattle.std.proofs.lemmas.Bool.{and_left, and_parts, both_ways, cases_eq, eq-
 use Rattle.fair.specs.Allotments.{brew_of, justly_envies, Fair}
 use Rattle.fair.specs.Markets.{Market}
 use Rattle.fair.specs.Proposals.{Envious, Lowest}
-use Rattle.assess.proofs.Lowests.{lowest_number}
-use Rattle.assess.specs.Envying.{envies_rival, EnviesNone}
+use Rattle.assess.specs.Envying.{envies_rival}
+
+-- taker s justly envies none of the first n takers
+abbrev pub EnviesNone : Market → List ℕ → ℕ → ℕ → Type 0
+EnviesNone w a n s = (t : ℕ) → t < n → envies_rival w a s t ≡ false
 
 module _ (w : Market) (a : List ℕ) where
   abbrev takers : ℕ
@@ -34,8 +37,12 @@ module _ (w : Market) (a : List ℕ) where
   pub lowest_envious : (s t k : ℕ) → k ≡ s + 1 → s < takers → t < takers → envies_rival w a s t ≡ true → ((j : ℕ) → j < s → EnviesNone w a takers j) → Lowest takers (λ j. Envious w a (j - 1)) k
   lowest_envious s t k number ls lt envy before =
       let here : s ≡ k - 1 = omega arith in
-      lowest_number (λ j. Envious w a (j - 1)) takers s k number ls (subst (Envious w a) here (t, brew_of a t, lt, over_own s t ∙ envy))
-      (λ j l some. let back : j + 1 - 1 ≡ j = omega arith in not_envious j (before j l) (subst (Envious w a) back some))
+      record {
+        low = omega arith;
+        high = omega arith;
+        holds = subst (Envious w a) here (t, brew_of a t, lt, over_own s t ∙ envy);
+        not_before = λ j low less. not_envious (j - 1) (before (j - 1) (omega arith));
+      }
 
   pub fair_without_rivals : ((s : ℕ) → s < takers → EnviesNone w a takers s) → Fair w a
   fair_without_rivals none = λ s t c ls lt. not_envied s t c (none s ls t lt)

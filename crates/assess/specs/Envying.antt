@@ -1,5 +1,5 @@
 -- The search for a taker with a just envy.
-use Rattle.std.specs.Prelude.{◌≡◌, ℕ, ◌-◌, ◌<◌, Bool, false, ◌&&◌, List, Some, None, Option, nat_lt}
+use Rattle.std.specs.Prelude.{ℕ, ◌-◌, Bool, ◌&&◌, List, Some, None, Option, nat_lt}
 use Rattle.std.specs.Option.{unwrap_or}
 use Rattle.orders.specs.Books.{Meaning, place_in}
 use Rattle.fair.specs.Allotments.{brew_of, Fair}
@@ -13,10 +13,6 @@ ranks_above book chooser item other = nat_lt (unwrap_or (place_in book chooser i
 -- taker s justly envies taker t the brew that t has
 abbrev pub envies_rival : Market → List ℕ → ℕ → ℕ → Bool
 envies_rival w a s t = prefers w s (brew_of a t) (brew_of a s) && favours w (brew_of a t) s t
-
--- taker s justly envies none of the first n takers
-abbrev pub EnviesNone : Market → List ℕ → ℕ → ℕ → Type 0
-EnviesNone w a n s = (t : ℕ) → t < n → envies_rival w a s t ≡ false
 
 -- The lowest taker with a just envy, or none, and then the list is fair.
 abbrev pub LowestEnvious : Market → List ℕ → Option ℕ → Type 0

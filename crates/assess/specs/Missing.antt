@@ -1,11 +1,8 @@
 -- The search for a chooser without an order.
-use Rattle.std.specs.Prelude.{◌≡◌, ℕ, List, Some, None, Option}
+use Rattle.std.specs.Prelude.{◌≡◌, ℕ, Some, None, Option}
 use Rattle.orders.specs.Books.{Meaning}
 use Rattle.fair.specs.FromBooks.{AllOrdered}
 use Rattle.fair.specs.Proposals.{Lowest}
-
-abbrev pub HasOrder : Meaning → ℕ → Type 0
-HasOrder book k = (places : List ℕ) × (book.order k ≡ Some places)
 
 abbrev pub Orderless : Meaning → ℕ → Type 0
 Orderless book k = book.order k ≡ None

@@ -10,8 +10,7 @@ returns-in-Greater g c = tally_some _ c.args.n c.loop-taker.taker (omega arith) 
 
 pub loop-taker-preserved : goal.loop-taker-preserved
 loop-taker-preserved g c =
-    let book = g.T.OrderBook.meaning c.args.takers.now in
     elim c.match-standing.branch [
-      | in-Less w ↦ gains_less book c.args.a.now c.args.b.now c.loop-taker.taker c.loop-taker.higher c.match-standing.higher c.loop-taker.invariant w.in-Less.ensures w.higher-is
-      | in-Equal w ↦ gains_equal book c.args.a.now c.args.b.now c.loop-taker.taker c.loop-taker.higher c.match-standing.higher c.loop-taker.invariant w.in-Equal.ensures w.higher-is
+      | in-Less w ↦ gains_less c.loop-taker.invariant w.in-Less.ensures w.higher-is
+      | in-Equal w ↦ gains_equal c.loop-taker.invariant w.in-Equal.ensures w.higher-is
     ]

@@ -1,5 +1,5 @@
 use Rattle.std.proofs.Common.{ℕ, ◌<◌, ◌≤◌}
-use Rattle.assess.specs.Missing.{HasOrder}
+use Rattle.assess.proofs.Ordered.{HasOrder}
 use Rattle.assess.proofs.missing.without_order.Given as goal
 
 abbrev pub invariant-loop-chooser : goal.invariant-loop-chooser

@@ -1,6 +1,6 @@
 use Rattle.std.proofs.Common.{◌≡◌, ℕ, ◌<◌, None}
-use Rattle.assess.specs.Envying.{EnviesNone}
 use Rattle.assess.specs.Markets.{market_in}
+use Rattle.assess.proofs.Rivals.{EnviesNone}
 use Rattle.assess.proofs.market.Market.lowest_envious.Given as goal
 
 abbrev pub invariant-loop-rival : goal.invariant-loop-rival
