@@ -132,10 +132,6 @@ module _ {T B : Type 0} {ts : Ghosts T} {bs : Ghosts B} {o : Opening T B ts bs} 
       full_here : o.choice.now.figures.lots ≤ get_or (counts run) own 0
       full_here = subst (λ k. o.choice.now.figures.lots ≤ get_or (counts run) k 0) at full
 
-      -- the brew is full
-      pub full_behind : place < get_or (lasts run) brew 0 → FullBehind o a run s
-      full_behind behind = record { full = full_here; behind = subst (λ p. p < get_or (lasts run) own 0) is_place (subst (λ k. place < get_or (lasts run) k 0) at behind) }
-
       -- it is refused
       pub refused_next : get_or (lasts run) brew 0 ≤ place → RefusedNext o a run s
       refused_next front = record {

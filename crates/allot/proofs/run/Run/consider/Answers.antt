@@ -1,6 +1,6 @@
 use Rattle.std.proofs.Common.{sym, arith}
 use Rattle.std.proofs.lemmas.Bool.{ltb-true, ltb-false}
-use Rattle.allot.proofs.Moving.{first_fits, its_brew_fits, full_behind, refused_next, held_considered}
+use Rattle.allot.proofs.Moving.{first_fits, its_brew_fits, refused_next, held_considered}
 use Rattle.allot.proofs.run.Run.consider.Goals as goal
 
 pub has_lot-requires : goal.has_lot-requires
@@ -10,9 +10,6 @@ pub hold-requires : goal.hold-requires
 hold-requires g c =
     let lot = ltb-true _ _ (sym c.if-has_lot.ensures) in
     (first_fits c.requires, its_brew_fits c.requires c.from-brew.ensures, omega (arith, lot, c.args.opening.now.choice.now.figures.few_lots))
-
-pub exchange-refused-requires-clause-full : goal.exchange-refused-requires-clause-full
-exchange-refused-requires-clause-full g c = full_behind c.requires c.from-brew.ensures c.place_in-place.ensures (ltb-false _ _ (sym c.if-has_lot.ensures)) (ltb-true _ _ (sym c.if-is_behind.ensures))
 
 pub move_on-requires-else-is_behind : goal.move_on-requires-else-is_behind
 move_on-requires-else-is_behind g c = refused_next c.requires c.from-brew.ensures c.place_in-place.ensures (ltb-false _ _ (sym c.if-has_lot.ensures)) (ltb-false _ _ (sym c.if-is_behind.ensures))
