@@ -42,7 +42,7 @@ module _ (waiting : List Bool) (n s : ℕ) (l : s < n) (each : n ≤ length wait
       tally_one_more (waits_at waiting) (waits_at (set waiting s true)) n s l mark (now_set true)
       (λ k _ ne. sym (get_or-set_other waiting s k true false ne))
 
-module _ (n : ℕ) (waiting : List Bool) (s : ℕ) (rest : List ℕ) (waits : Waits n waiting (s ∷ rest)) where
+module _ {n : ℕ} {waiting : List Bool} {s : ℕ} {rest : List ℕ} (waits : Waits n waiting (s ∷ rest)) where
   pub first_taker : s < n
   first_taker = waits.takers s (among_first s rest)
 
@@ -77,8 +77,8 @@ module _ (n : ℕ) (waiting : List Bool) (s : ℕ) (rest : List ℕ) (waits : Wa
   room_behind = omega (arith, waits.as_many, tally_le (waits_at waiting) n)
 
 -- one that is not marked is marked, and stands in front of the line
-pub enters : (n : ℕ) (waiting : List Bool) (line : List ℕ) → Waits n waiting line → (t : ℕ) → t < n → waits_at waiting t ≡ false → Waits n (set waiting t true) (t ∷ line)
-enters n waiting line waits t l unmarked =
+pub enters : {n : ℕ} {waiting : List Bool} {line : List ℕ} → Waits n waiting line → (t : ℕ) → t < n → waits_at waiting t ≡ false → Waits n (set waiting t true) (t ∷ line)
+enters {n} {waiting} {line} waits t l unmarked =
     let apart : (u : ℕ) → among line u ≡ true → u ≡ t → ⊥ = λ u h e. both_ways _ unmarked (subst (λ k. waits_at waiting k ≡ true) e (waits.marked u h)) in
     record {
       each = omega (arith, waits.each, length-set waiting t true);

@@ -21,7 +21,7 @@ pub favourite_is : (w : Market) (s : ℕ) (cs : List ℕ) (c : ℕ) (r : Option 
 favourite_is w s cs c None none listed placed = absurd (omega (arith, none c listed, placed c listed))
 favourite_is w s cs c (Some d) (here, below, none_between) listed placed = (d, refl, record { listed = here; highest = λ e t. none_between e t (placed e t) })
 
-module _ (f : Figures) (t b : Meaning) (sound : Sound t) (complete : Complete f t b) (cs : List ℕ) (choice : IsChoice f cs) (s : ℕ) (l : s < f.takers) where
+module _ {f : Figures} {t b : Meaning} (sound : Sound t) (complete : Complete f t b) {cs : List ℕ} (choice : IsChoice f cs) (s : ℕ) (l : s < f.takers) where
   chooser : s < t.choosers
   chooser = omega (arith, complete.a_taker_each)
 
@@ -35,17 +35,17 @@ module _ (f : Figures) (t b : Meaning) (sound : Sound t) (complete : Complete f 
   by_index P each e low high = let back : e - 1 + 1 ≡ e = omega arith in subst P back (each (e - 1) (omega arith))
 
   pub placed : (e : ℕ) → among cs e ≡ true → 1 ≤ place_of t (s + 1) e
-  placed e h = by_index (λ x. 1 ≤ place_of t (s + 1) x) (place_low t sound complete.takers_ordered s chooser) e (bounds e h).0 (bounds e h).1
+  placed e h = by_index (λ x. 1 ≤ place_of t (s + 1) x) (place_low sound complete.takers_ordered s chooser) e (bounds e h).0 (bounds e h).1
 
   pub place_within : (e : ℕ) → among cs e ≡ true → place_of t (s + 1) e ≤ t.items
-  place_within e h = by_index (λ x. place_of t (s + 1) x ≤ t.items) (place_high t sound complete.takers_ordered s chooser) e (bounds e h).0 (bounds e h).1
+  place_within e h = by_index (λ x. place_of t (s + 1) x ≤ t.items) (place_high sound complete.takers_ordered s chooser) e (bounds e h).0 (bounds e h).1
 
   same_place : (x e : ℕ) → within x t.items ≡ true → among cs e ≡ true → place_of t (s + 1) x ≡ place_of t (s + 1) e → x ≡ e
   same_place x e h m =
       by_index (λ y. place_of t (s + 1) y ≡ place_of t (s + 1) e → y ≡ e)
       (λ y n.
       by_index (λ z. place_of t (s + 1) (y + 1) ≡ place_of t (s + 1) z → y + 1 ≡ z)
-      (λ z o e. omega (arith, place_apart t sound complete.takers_ordered s chooser y z n o e)) e (bounds e m).0 (bounds e m).1)
+      (λ z o e. omega (arith, place_apart sound complete.takers_ordered s chooser y z n o e)) e (bounds e m).0 (bounds e m).1)
       x (leb-true 1 x (and_parts _ _ h).0) (leb-true x t.items (and_parts _ _ h).1)
 
   module _ (table : List ℕ) (ranks : Ranks t table) (from : ℕ) where

@@ -11,7 +11,7 @@ use Rattle.tally.proofs.Positions.{position_le, position_is, all_stand}
 use Rattle.fair.specs.FromBooks.{AllOrdered}
 use Rattle.acceptance.specs.Rankings.{place_of, Ranks, spot, RankedTo}
 
-module _ (book : Meaning) (sound : Sound book) (ordered : AllOrdered book) where
+module _ {book : Meaning} (sound : Sound book) (ordered : AllOrdered book) where
   module _ (k : ℕ) (l : k < book.choosers) where
     chooser : within (k + 1) book.choosers ≡ true
     chooser = grind (arith, nat_tests)

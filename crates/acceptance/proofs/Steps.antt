@@ -56,14 +56,14 @@ other_brew a u s b c t ne =
     (cases_eq t s)
 
 -- a state whose parts are equal to others
-pub state_of : (w : Market) (cs a : List ℕ) (u v : List Bool) (counts counts' lasts lasts' line line' : List ℕ) → v ≡ u → counts' ≡ counts → lasts' ≡ lasts → line' ≡ line → Running w cs a u counts lasts line → Running w cs a v counts' lasts' line'
-state_of w cs a u v counts counts' lasts lasts' line line' marks counted noted waits run =
+pub state_of : {w : Market} {cs a : List ℕ} {u v : List Bool} {counts counts' lasts lasts' line line' : List ℕ} → v ≡ u → counts' ≡ counts → lasts' ≡ lasts → line' ≡ line → Running w cs a u counts lasts line → Running w cs a v counts' lasts' line'
+state_of {w} {cs} {a} {u} {v} {counts} {counts'} {lasts} {lasts'} {line} {line'} marks counted noted waits run =
     subst (λ x. Running w cs a x counts' lasts' line') (sym marks)
     (subst (λ x. Running w cs a u x lasts' line') (sym counted)
     (subst (λ x. Running w cs a u counts x line') (sym noted)
     (subst (Running w cs a u counts lasts) (sym waits) run)))
 
-module _ (w : Market) (sound : SoundMarket w) (cs : List ℕ) (choice : IsChoice w.figures cs) where
+module _ {w : Market} (sound : SoundMarket w) {cs : List ℕ} (choice : IsChoice w.figures cs) where
   abbrev takers : ℕ
   takers = w.figures.takers
 
@@ -85,7 +85,7 @@ module _ (w : Market) (sound : SoundMarket w) (cs : List ℕ) (choice : IsChoice
     };
   }
 
-  module _ (a : List ℕ) (waiting : List Bool) (counts lasts : List ℕ) where
+  module _ {a : List ℕ} {waiting : List Bool} {counts lasts : List ℕ} where
     -- nobody waits: nobody has as many ahead of it as its brew has lots
     pub ends : Running w cs a waiting counts lasts [] → a ≡ deferred_acceptance w cs
     ends run = end w sound cs choice a run.reached still
@@ -106,15 +106,15 @@ module _ (w : Market) (sound : SoundMarket w) (cs : List ℕ) (choice : IsChoice
             not_above_itself : (c t : ℕ) → favours w c t t ≡ false
             not_above_itself c t = lt-leb _ _ (omega arith)
 
-    module _ (s : ℕ) (rest : List ℕ) (run : Running w cs a waiting counts lasts (s ∷ rest)) where
+    module _ {s : ℕ} {rest : List ℕ} (run : Running w cs a waiting counts lasts (s ∷ rest)) where
       abbrev c : ℕ
       c = brew_of a s
 
       pub in_range : s < takers
-      in_range = first_taker takers waiting s rest run.waits
+      in_range = first_taker run.waits
 
       marked : waits_at waiting s ≡ true
-      marked = first_marked takers waiting s rest run.waits
+      marked = first_marked run.waits
 
       pub stands_in_choice : among cs c ≡ true
       stands_in_choice = run.reached.chosen s in_range
@@ -169,7 +169,7 @@ module _ (w : Market) (sound : SoundMarket w) (cs : List ℕ) (choice : IsChoice
             → Running w cs a freed counts' lasts' rest
         held_now lot former own either = record {
           reached = run.reached;
-          waits = leaves takers waiting s rest run.waits;
+          waits = leaves run.waits;
           room = (omega (arith, run.room, length-set counts c (get_or counts c 0 + 1)), omega (arith, run.room, length-set lasts c last));
           held = by_brew (λ d. Holds w a freed d (get_or counts' d 0) (get_or lasts' d 0))
               (subst (λ k. Holds w a freed c k (get_or lasts' c 0)) (sym (get_or-set_same counts c _ 0 below_counts))
@@ -217,7 +217,7 @@ module _ (w : Market) (sound : SoundMarket w) (cs : List ℕ) (choice : IsChoice
           ))
 
       -- The taker r, which the brew of s holds, is exchanged for s: r is marked in its place and comes first in line.
-      module _ (r : ℕ) (l : r < takers) (held : holds a waiting c r ≡ true) where
+      module _ {r : ℕ} (l : r < takers) (held : holds a waiting c r ≡ true) where
         abbrev exchanged : List Bool
         exchanged = set freed r true
 
@@ -276,7 +276,7 @@ module _ (w : Market) (sound : SoundMarket w) (cs : List ℕ) (choice : IsChoice
             → Running w cs a exchanged counts (set lasts c last) (r ∷ rest)
         exchanges last none_behind met = record {
           reached = run.reached;
-          waits = enters takers freed rest (leaves takers waiting s rest run.waits) r l r_free;
+          waits = enters (leaves run.waits) r l r_free;
           room = (run.room.0, omega (arith, run.room, length-set lasts c last));
           held = by_brew (λ d. Holds w a exchanged d (get_or counts d 0) (get_or (set lasts c last) d 0))
               (subst (λ k. Holds w a exchanged c (get_or counts c 0) k) (sym (get_or-set_same lasts c last 0 below_lasts))
@@ -310,18 +310,18 @@ module _ (w : Market) (sound : SoundMarket w) (cs : List ℕ) (choice : IsChoice
 
       -- s goes behind all others in line
       pub turned : Running w cs a waiting counts lasts (rest ++ s ∷ [])
-      turned = record { reached = run.reached; waits = turns takers waiting s rest run.waits; room = run.room; held = run.held }
+      turned = record { reached = run.reached; waits = turns run.waits; room = run.room; held = run.held }
 
     -- less is left to do once the first in line is held, or has moved and goes behind the others
-    module _ (s : ℕ) (rest : List ℕ) (run : Running w cs a waiting counts lasts (s ∷ rest)) where
+    module _ {s : ℕ} {rest : List ℕ} (run : Running w cs a waiting counts lasts (s ∷ rest)) where
       pub less_when_held : work w cs a rest < work w cs a (s ∷ rest)
       less_when_held = omega arith
 
       pub less_when_moved : (refusal : refused w a s ≡ true) (d : ℕ) → IsNext w s cs (brew_of a s) d → work w cs (set a s d) (rest ++ s ∷ []) < work w cs a (s ∷ rest)
-      less_when_moved refusal d next = omega (arith, length_push rest s, move_falls w sound cs choice a run.reached s (in_range s rest run) refusal d next)
+      less_when_moved refusal d next = omega (arith, length_push rest s, move_falls w sound cs choice a run.reached s (in_range run) refusal d next)
 
   -- The last of a full brew, exchanged for s, is refused where it stands.
-  module _ (a : List ℕ) (waiting : List Bool) (counts lasts : List ℕ) (s : ℕ) (rest : List ℕ) (run : Running w cs a waiting counts lasts (s ∷ rest)) (r : ℕ) (l : r < takers) (held : holds a waiting (brew_of a s) r ≡ true)
+  module _ {a : List ℕ} {waiting : List Bool} {counts lasts : List ℕ} {s : ℕ} {rest : List ℕ} (run : Running w cs a waiting counts lasts (s ∷ rest)) {r : ℕ} (l : r < takers) (held : holds a waiting (brew_of a s) r ≡ true)
       (full : lots_of w.figures (brew_of a s) ≤ get_or counts (brew_of a s) 0) (was : get_or lasts (brew_of a s) 0 ≡ w.taker_place (brew_of a s) r) (front : w.taker_place (brew_of a s) s < w.taker_place (brew_of a s) r) where
     abbrev marks : List Bool
     marks = set (set waiting s false) r true
@@ -330,12 +330,12 @@ module _ (w : Market) (sound : SoundMarket w) (cs : List ℕ) (choice : IsChoice
     module _ (last : ℕ) (near : last < w.taker_place (brew_of a s) r) (none_behind : (t : ℕ) → t < takers → holds a marks (brew_of a s) t ≡ true → w.taker_place (brew_of a s) t < w.taker_place (brew_of a s) r → w.taker_place (brew_of a s) t ≤ last)
         (met : (t : ℕ) × (t < takers) × (holds a marks (brew_of a s) t ≡ true) × (w.taker_place (brew_of a s) t ≡ last)) where
       pub exchanged_state : Running w cs a marks counts (set lasts (brew_of a s) last) (r ∷ rest)
-      exchanged_state = exchanges a waiting counts lasts s rest run r l held last (λ t m h. none_behind t m h (all_in_front a waiting counts lasts s rest run r l held was front t m h)) met
+      exchanged_state = exchanges run l held last (λ t m h. none_behind t m h (all_in_front run l held was front t m h)) met
 
       pub exchanged_refused : refused w a r ≡ true
       exchanged_refused =
           let here : brew_of a s ≡ brew_of a r = sym (held_here a waiting (brew_of a s) r held).0 in
-          refuses a marks counts (set lasts (brew_of a s) last) r rest exchanged_state
+          refuses exchanged_state
           (subst (λ d. lots_of w.figures d ≤ get_or counts d 0) here full)
           (subst (λ d. get_or (set lasts (brew_of a s) last) d 0 ≤ w.taker_place d r) here
-          (omega (arith, get_or-set_same lasts (brew_of a s) last 0 (below_lasts a waiting counts lasts s rest run))))
+          (omega (arith, get_or-set_same lasts (brew_of a s) last 0 (below_lasts run))))

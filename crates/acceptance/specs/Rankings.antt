@@ -1,6 +1,6 @@
 -- Who stands at each place of the orders of a book, as a table with a row for each chooser: what stands at place p + 1
 -- of the order of chooser k + 1 is found at k * items + p.
-use Rattle.std.specs.Prelude.{◌≡◌, ℕ, ◌+◌, ◌-◌, ◌*◌, ◌<◌, ◌≤◌, true, List, Some, None, Option, length, slice_index, slice_range}
+use Rattle.std.specs.Prelude.{◌≡◌, ℕ, ◌+◌, ◌-◌, ◌*◌, ◌<◌, ◌≤◌, true, List, Some, None, Option, length, slice_index}
 use Rattle.std.specs.Option.{unwrap_or}
 use Rattle.orders.specs.Books.{Meaning, place_in, within}
 use Rattle.fair.specs.Markets.{Market}
@@ -23,10 +23,6 @@ pub record RankedTo (book : Meaning) (k x : ℕ) (table : List ℕ) : Type 0 whe
   pub long : book.choosers * book.items ≤ length table
   pub rows : (j y : ℕ) → j < k → y < book.items → slice_index table (spot book j y) ≡ y + 1
   pub row : (y : ℕ) → y < x → slice_index table (spot book k y) ≡ y + 1
-
--- the order of chooser k + 1 in the table
-abbrev pub row_of : Meaning → List ℕ → ℕ → List ℕ
-row_of book table k = slice_range table (k * book.items) (k * book.items + book.items)
 
 -- Brew d is the first of the list behind the given place in the order of taker s, or none is.
 abbrev pub NextAfter : Market → ℕ → List ℕ → ℕ → Option ℕ → Type 0

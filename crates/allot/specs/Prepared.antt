@@ -8,13 +8,13 @@ use Rattle.fair.specs.FromBooks.{Complete}
 use Rattle.acceptance.specs.Rankings.{Ranks}
 use Rattle.allot.specs.declared.ranking.Ranking.{Ranking}
 
--- The ranking is that of a book.
+-- The ranking is that of a sound book.
 pub record IsRankingOf (book : Meaning) (ranking : Ranking) : Type 0 where
   pub sound : Sound book
   pub wide : ranking.items ≡ book.items
   pub ranks : Ranks book ranking.table
 
--- there is one proof at most that books are complete
+-- an order is there in one way at most, and books are complete in one way at most
 order-prop : (order : Option (List ℕ)) → IsProp ((places : List ℕ) × (order ≡ Some places))
 order-prop order (p, e) (q, d) = Σ_prop_path (λ x. Prim.hlevel props) Prim.cc
 

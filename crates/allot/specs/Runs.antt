@@ -8,12 +8,17 @@ use Rattle.fair.specs.Allotments.{brew_of}
 use Rattle.fair.specs.Acceptance.{refused}
 use Rattle.acceptance.specs.Running.{holds, Running, work}
 use Rattle.allot.specs.declared.opening.Opening.{Opening}
+use Rattle.allot.specs.declared.run.Held.{Held}
 use Rattle.allot.specs.declared.run.Run.{Run}
 use Rattle.allot.specs.Openings.{brews_opened, market_in}
 
 -- those who wait, the first in line first
 abbrev pub in_line : Run → List ℕ
 in_line run = held run.line run.slots
+
+-- nobody is held
+abbrev pub none_held : Held
+none_held = record { count = 0; last = 0 }
 
 -- how many takers each brew holds, and the place of the last of them
 abbrev pub counts : Run → List ℕ
@@ -38,7 +43,7 @@ pub record Waiting (taker : ℕ) (before after : Run) : Type 0 where
 -- Everybody is marked as waiting, nobody is held, and the first n takers are in line.
 pub record Fresh (n : ℕ) (run : Run) : Type 0 where
   pub all_wait : run.waiting ≡ replicate 432 true
-  pub none_held : run.held ≡ replicate 17 (record { count = 0; last = 0 })
+  pub nobody : run.held ≡ replicate 17 none_held
   pub all_in_line : in_line run ≡ range_with_len 0 n
 
 -- Of the takers that brew c holds, those within so many places of its order are within r.
@@ -52,8 +57,8 @@ LastHeld w a waiting c places None = NoneBehind w a waiting c places 0
 
 module _ {T B : Type 0} {ts : Ghosts T} {bs : Ghosts B} (o : Opening T B ts bs) where
   -- What a run keeps, where the takers stand at the brews of a, and these wait.
-  abbrev pub State : (a : List ℕ) → Run → List ℕ → Type 0
-  State a run line = Running (market_in o) (brews_opened o) a run.waiting (counts run) (lasts run) line
+  pub record State (a : List ℕ) (run : Run) (line : List ℕ) : Type 0 where
+    pub running : Running (market_in o) (brews_opened o) a run.waiting (counts run) (lasts run) line
 
   -- The brew where the taker stands is full, and the taker is in front of the last that it holds.
   pub record FullBehind (a : List ℕ) (run : Run) (taker : ℕ) : Type 0 where

@@ -24,6 +24,7 @@ fn rank_row<B: OrderBook>(book: &B, chooser: usize, table: &mut [u16])
 {
     let items = book.items();
     let start = chooser * items;
+    // A range: each item goes to the place that the book gives it, and not along the table.
     for item in 0..items {
         let place = place_in(book, chooser + 1, item + 1);
         table[start + (usize::from(place) - 1)] = (item + 1) as u16;
@@ -39,6 +40,7 @@ impl Ranking {
         ensures { IsRankingOf (B.meaning book.now) result }
     {
         let mut table = [0; PLACES];
+        // A range: of a table that is lent in pieces, `chunks_mut`, nothing would be known afterwards.
         for chooser in 0..book.choosers() {
             rank_row(book, chooser, &mut table);
         }

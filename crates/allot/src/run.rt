@@ -19,7 +19,7 @@ struct Held {
     /// How many takers.
     count: u16,
     /// The place of the last of them in the order of the brew.
-    // 0 where it holds none: any place is behind it, and the proofs compare numbers.
+    // 0 where it holds none, and no Option: the proofs compare it with places as a number.
     last: u16,
 }
 

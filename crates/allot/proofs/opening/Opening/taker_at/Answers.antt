@@ -6,4 +6,4 @@ use Rattle.allot.proofs.opening.Opening.taker_at.Goals as goal
 pub returns : goal.returns
 returns g c =
     let found = taker_found c.args.self.now c.args.brew c.args.place c.row.result.now c.requires.brew c.requires.place c.row.ensures in
-    subst (λ x. AtPlace (market_in c.args.self.now) c.args.brew c.args.place (x - 1)) (sym c.from.ensures) found.1
+    subst (λ x. AtPlace (market_in c.args.self.now) c.args.brew c.args.place (x - 1)) (sym c.from.ensures) found

@@ -1,5 +1,5 @@
 use Rattle.std.proofs.Common.{sym, ◌∙◌}
-use Rattle.allot.proofs.Moving.{none_nearer}
+use Rattle.allot.proofs.Facts.{none_nearer}
 use Rattle.allot.proofs.run.Run.last_held.Goals as goal
 
 pub loop-place-preserved : goal.loop-place-preserved

@@ -3,20 +3,13 @@ use Rattle.allot.proofs.Moving.{first_fits, room_to_wait, place_within_brews, ha
 use Rattle.allot.proofs.run.Run.move_on.Goals as goal
 
 pub next_brew-requires-clause-place : goal.next_brew-requires-clause-place
-next_brew-requires-clause-place g c =
-    place_within_brews c.args.opening.now c.args.stands.now c.args.self.now c.args.taker c.requires c.from-brew.result c.from.result c.from-brew.ensures (c.from.ensures ∙ c.place_in-place.ensures)
+next_brew-requires-clause-place g c = place_within_brews c.requires c.from-brew.ensures (c.from.ensures ∙ c.place_in-place.ensures)
 
 pub unwrap-next-requires : goal.unwrap-next-requires
-unwrap-next-requires g c =
-    has_next c.args.opening.now c.args.stands.now c.args.self.now c.args.taker c.requires c.from-brew.result c.from.result c.from-brew.ensures (c.from.ensures ∙ c.place_in-place.ensures) c.next_brew.result c.next_brew.ensures
+unwrap-next-requires g c = has_next c.requires c.from-brew.ensures (c.from.ensures ∙ c.place_in-place.ensures) c.next_brew.result c.next_brew.ensures
 
 pub wait-requires : goal.wait-requires
-wait-requires g c = (
-  first_fits c.args.opening.now c.args.stands.now c.args.self.now c.args.taker c.requires.state,
-  room_to_wait c.args.opening.now c.args.stands.now c.args.self.now c.args.taker c.requires,
-)
+wait-requires g c = (first_fits c.requires.state, room_to_wait c.requires)
 
 pub returns : goal.returns
-returns g c =
-    moved_considered c.args.opening.now c.args.stands.now c.args.self.now c.args.taker c.requires c.from-brew.result c.from.result c.from-brew.ensures (c.from.ensures ∙ c.place_in-place.ensures)
-    c.unwrap-next.result c.next_brew.result c.next_brew.ensures c.unwrap-next.ensures c.wait.new.self c.wait.ensures
+returns g c = moved_considered c.requires c.from-brew.ensures (c.from.ensures ∙ c.place_in-place.ensures) c.next_brew.ensures c.unwrap-next.ensures c.wait.ensures
