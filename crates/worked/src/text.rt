@@ -30,6 +30,7 @@ pub struct Opened<'a>(pub &'a Choice);
 impl fmt::Display for Opened<'_> {
     ghost output = { λ opened. Some (spaced (brews_of opened.0.now)) };
 
+    #[tactic(auto, using(crate::proofs::Spacing::writing))]
     fn fmt<W: fmt::Write>(&self, f: &mut fmt::Formatter<W>) -> fmt::Result {
         for brew in 1..=self.0.figures().brews() {
             if self.0.has(brew) {
