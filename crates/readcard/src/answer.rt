@@ -58,6 +58,7 @@ fn read_sole<B: OrderBook>(book: &mut B, items: usize, card: &[u8]) -> Result<()
 }
 
 /// The line `ok`, and one for each item that has a place with the first chooser.
+#[tactic(auto, using(crate::proofs::Lines::lines_some, crate::proofs::Lines::lines_none))]
 fn place_lines<B: OrderBook>(heap: Global, book: &B) -> Result<Vec<Line>, AllocError>
     ensures { IfOk result (λ lines. lines.items ≡ lines_in (B.meaning book.now) (B.meaning book.now).items) }
 {

@@ -16,14 +16,13 @@ fn run(rt: &HostRuntime) -> anyhow::Result<()> {
     let (Some(kind), Some(items), None) = (args.next(), args.next(), args.next()) else {
         bail!("usage: readcard KIND ITEMS, with the card on standard input");
     };
-    let kind = kind.as_str().parse()?;
+    let kind = kind.parse()?;
     let items = items
-        .as_str()
         .parse()
         .context("ITEMS is no number below 2 to the 64th")?;
     let mut card = Vec::new(rt.alloc());
     rt.stdin().read_to_end(&mut card)?;
-    for line in answer::answer(rt.alloc(), kind, items, card.as_slice())?.iter() {
+    for line in &answer::answer(rt.alloc(), kind, items, &card)? {
         rt.println(line)?;
     }
     Ok(())

@@ -1,16 +1,16 @@
--- One number more behind a text.
+-- The printed brews of a choice: one brew more, and all of them.
 use Rattle.std.proofs.Common.{◌≡◌, ℕ, ◌+◌, ◌-◌, ◌≤◌, Bool, true, false, cond, [], ◌∷◌, ◌++◌, codes, decimal, filter, sym, ap, ◌∙◌, append-nil, arith}
 use Rattle.std.specs.List.{range_with_len}
 use Rattle.std.proofs.lemmas.List.FromFn.{filter_of_map_range_with_len_more}
 use Rattle.std.proofs.lemmas.List.{flat_map_more, map-id}
 use Rattle.fair.specs.Choices.{among}
 use Rattle.fair.proofs.Choosing.{among_all, among_kept, ascending_all, ascending_kept}
-use Rattle.choices.specs.Chosen.{brews_of}
-use Rattle.choices.specs.declared.choice.Choice.{Choice}
+use Rattle.choices.specs.Bits.{brews_in}
 use Rattle.choices.proofs.Lists.{ascending_same}
 use Rattle.choices.proofs.Sets.{brews_ascending, among_outside}
 use Rattle.orders.specs.Books.{within}
 use Rattle.std.proofs.lemmas.Bool.Decides.{nat_tests}
+use Rattle.std.proofs.lemmas.Grind.{common_steps}
 use Rattle.worked.specs.Printed.{spaced}
 
 -- the numbers from 1 to n that pass, and one more
@@ -33,13 +33,16 @@ module _ (p : ℕ → Bool) where
       let back : n - 1 + 1 ≡ n = omega arith in
       ap spaced (sym (append-nil _) ∙ ap (λ b. filter p (range_with_len 1 (n - 1)) ++ cond b (n ∷ []) []) (sym fails) ∙ sym (rw back at (kept_more (n - 1))))
 
--- the brews of a round that a choice has are its brews
-pub kept_all : (c : Choice) → filter (among (brews_of c)) (range_with_len 1 c.figures.brews) ≡ brews_of c
-kept_all c =
-    let n = c.figures.brews in
-    ascending_same 0 n _ _ (ascending_kept (among (brews_of c)) 0 n _ (ascending_all n)) (brews_ascending 0 n n c.bits (omega arith))
+-- the brews of a set, of those from 1 to n, are all its brews
+pub kept_all : (n bits : ℕ) → filter (among (brews_in 0 n bits)) (range_with_len 1 n) ≡ brews_in 0 n bits
+kept_all n bits =
+    let p = among (brews_in 0 n bits) in
+    ascending_same 0 n _ _ (ascending_kept p 0 n _ (ascending_all n)) (brews_ascending 0 n n bits (omega arith))
     (λ b.
-    let kept = among_kept (among (brews_of c)) (range_with_len 1 n) b in
+    let kept = among_kept p (range_with_len 1 n) b in
     let all = among_all n b in
-    let out : within b n ≡ false → among (brews_of c) b ≡ false = among_outside n c.bits b in
+    let out : within b n ≡ false → p b ≡ false = among_outside n bits b in
     grind (arith, nat_tests))
+
+-- the steps of writing the brews of a choice
+pub ruleset writing = (common_steps, spaced_one, spaced_none, kept_all)

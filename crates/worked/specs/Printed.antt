@@ -7,5 +7,8 @@ use Rattle.assess.specs.declared.envy.Envy.{Envy}
 abbrev pub spaced : List ℕ → List ℕ
 spaced = flat_map (λ x. codes " " ++ decimal x)
 
+abbrev pub allotment_line : List ℕ → List ℕ
+allotment_line a = codes "allotment" ++ spaced a
+
 abbrev pub envy_line : Envy → List ℕ
 envy_line envy = codes "envy taker " ++ (decimal envy.taker ++ (codes " brew " ++ (decimal envy.brew ++ (codes " rival " ++ decimal envy.rival))))

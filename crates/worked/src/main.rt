@@ -7,7 +7,7 @@ use crate::lines::choice_line;
 use crate::rounds::{
     BY_HAND, FIVE_BREWS, Round, SIX_OTHERS, SIX_TAKERS, THREE_BREWS, THREE_OTHERS, THREE_TAKERS,
 };
-use crate::text::{EnvyLine, Spaced};
+use crate::text::{AllotmentLine, EnvyLine};
 use anyhow::{Context, anyhow};
 use assess::envy::Envy;
 use assess::market::Market;
@@ -45,7 +45,7 @@ fn print_envies<T: OrderBook, B: OrderBook>(
     market: &Market<'_, '_, T, B>,
     allotment: &[u8],
 ) -> anyhow::Result<()> {
-    println!(rt; "allotment{}", Spaced(allotment))?;
+    rt.println(AllotmentLine(allotment))?;
     let mut line = Line::new();
     let mut slots = [Envy {
         taker: 0,

@@ -2,7 +2,7 @@
 
 ghost use Rattle.std.specs.Prelude.{Some};
 ghost use Rattle.choices.specs.Chosen.{brews_of};
-ghost use Rattle.worked.specs.Printed.{envy_line, spaced};
+ghost use Rattle.worked.specs.Printed.{allotment_line, envy_line, spaced};
 
 use assess::envy::Envy;
 use choices::choice::Choice;
@@ -30,6 +30,7 @@ pub struct Opened<'a>(pub &'a Choice);
 impl fmt::Display for Opened<'_> {
     ghost output = { λ opened. Some (spaced (brews_of opened.0.now)) };
 
+    #[tactic(auto, using(crate::proofs::Spacing::writing))]
     fn fmt<W: fmt::Write>(&self, f: &mut fmt::Formatter<W>) -> fmt::Result {
         for brew in 1..=self.0.figures().brews() {
             if self.0.has(brew) {
@@ -37,6 +38,19 @@ impl fmt::Display for Opened<'_> {
             }
         }
         Ok(())
+    }
+}
+
+/// The line of an allotment.
+#[derive(Clone, Copy)]
+pub struct AllotmentLine<'a>(pub &'a [u8]);
+
+impl fmt::Display for AllotmentLine<'_> {
+    ghost output = { λ line. Some (allotment_line line.0.now) };
+
+    fn fmt<W: fmt::Write>(&self, f: &mut fmt::Formatter<W>) -> fmt::Result {
+        let brews = Spaced(self.0);
+        write!(f, "allotment{brews}")
     }
 }
 
