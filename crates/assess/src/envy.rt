@@ -29,6 +29,7 @@ impl<T: OrderBook, B: OrderBook> Market<'_, '_, T, B> {
     {
         let takers = self.figures.takers();
         let mut found = None;
+        // Ranges, as the list may be shorter than the takers; the label leaves both loops at the first envy.
         'takers: for taker in 0..takers {
             for rival in 0..takers {
                 if self.envies_rival(allotment, taker, rival) {
@@ -57,6 +58,7 @@ impl<T: OrderBook, B: OrderBook> Market<'_, '_, T, B> {
     {
         line.clear();
         let mut count = 0;
+        // A range: the list may be shorter than the takers.
         for taker in 0..self.figures.takers() {
             count += self.envies_of(allotment, taker, line, slots);
         }
@@ -99,6 +101,7 @@ impl<T: OrderBook, B: OrderBook> Market<'_, '_, T, B> {
             return 0;
         }
         let mut count = 0;
+        // A range: the list may be shorter than the takers.
         for rival in 0..self.figures.takers() {
             count += self.envy_over(allotment, taker, brew, rival, line, slots);
         }

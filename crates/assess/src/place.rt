@@ -11,6 +11,7 @@ use orders::book::OrderBook;
 pub(crate) fn brew_of(allotment: &[u8], taker: usize) -> usize
     ensures { result ≡ slice_index allotment.now taker }
 {
+    // 0 and no Option: to the definitions an entry that is not there is 0, which is no brew.
     allotment.get(taker).map_or(0, |&brew| usize::from(brew))
 }
 
@@ -18,6 +19,7 @@ pub(crate) fn brew_of(allotment: &[u8], taker: usize) -> usize
 pub fn place_in<B: OrderBook>(book: &B, chooser: usize, item: usize) -> u16
     ensures { result ≡ unwrap_or (place_in (B.meaning book.now) chooser item) 0 }
 {
+    // 0 and no Option: the places of a market are numbers, and an absent one is 0 there.
     book.place(chooser, item).unwrap_or(0)
 }
 
