@@ -26,7 +26,7 @@ fn highest_below(figures: Figures, bits: u32) -> Option<Choice>
     requires { bits ≤ 2 ^ figures.brews }
     ensures { HighestBelow figures bits result }
 {
-    // A loop: that `rev` and `find` over a range give the highest is not proved, and the `?` behind them needs a function more.
+    // A loop: the check does not find what `find` gives over a range from behind, and a chain before `?` needs a function more.
     for lower in (0..bits).rev() {
         if is_choice(figures, lower) {
             return Some(Choice {
