@@ -18,9 +18,9 @@ use Rattle.acceptance.specs.Rankings.{place_of, NextAfter}
 use Rattle.acceptance.specs.Running.{holds}
 use Rattle.acceptance.proofs.Ranking.{place_low, place_high}
 use Rattle.acceptance.proofs.Nexts.{next_found}
-use Rattle.allot.specs.declared.opening.Opening.{Opening}
+use Rattle.allot.specs.declared.open_market.OpenMarket.{OpenMarket}
 use Rattle.allot.specs.Runs.{NoneBehind}
-use Rattle.allot.specs.Openings.{AtPlace, brews_opened, market_in}
+use Rattle.allot.specs.OpenMarkets.{AtPlace, brews_opened, market_in}
 
 limits_of : (f : RoundFigures) → InLimits (figures_of f)
 limits_of f = record {
@@ -40,7 +40,7 @@ get_or-row table start n p l = get_or-take (start + n - start) (drop start table
 pub choice_of : (c : Choice) → IsChoice (figures_of c.figures) (brews_of c)
 choice_of c = record { size = c.size; ascending = brews_ascending 0 c.figures.brews c.figures.brews c.bits (omega arith) }
 
-module _ {T B : Type 0} {ts : Ghosts T} {bs : Ghosts B} (o : Opening T B ts bs) where
+module _ {T B : Type 0} {ts : Ghosts T} {bs : Ghosts B} (o : OpenMarket T B ts bs) where
   abbrev pub w : Market
   w = market_in o
 

@@ -21,9 +21,9 @@ use Rattle.acceptance.specs.Running.{holds, Running, work}
 use Rattle.acceptance.proofs.Steps.{state_of, begins, in_range, at_a_brew, held_now, refuses, s_held, exchanged_state, exchanged_refused, moved, turned, less_when_moved, ends}
 use Rattle.acceptance.proofs.Lines.{room_behind}
 use Rattle.acceptance.proofs.Nexts.{favourite_is, next_is, place_within, placed}
-use Rattle.allot.specs.declared.opening.Opening.{Opening}
+use Rattle.allot.specs.declared.open_market.OpenMarket.{OpenMarket}
 use Rattle.allot.specs.declared.run.Run.{Run}
-use Rattle.allot.specs.Openings.{AtPlace}
+use Rattle.allot.specs.OpenMarkets.{AtPlace}
 use Rattle.allot.specs.Runs.{in_line, none_held, counts, lasts, State, Fresh, HoldsMore, Waiting, LastHeld, FullBehind, NoneBehind, RefusedNext, Considered}
 use Rattle.allot.proofs.Facts.{w, cs, takers_sound, is_choice, sound_market, taker_fits, brew_fits, place_fits}
 
@@ -32,7 +32,7 @@ some_brew : (cs : List ℕ) → 1 ≤ length cs → (c : ℕ) × (among cs c ≡
 some_brew [] some = absurd (omega arith)
 some_brew (c ∷ cs) some = (c, among_first c cs)
 
-module _ {T B : Type 0} {ts : Ghosts T} {bs : Ghosts B} {o : Opening T B ts bs} where
+module _ {T B : Type 0} {ts : Ghosts T} {bs : Ghosts B} {o : OpenMarket T B ts bs} where
   -- the first in line, and the brew where it stands
   module _ {a : List ℕ} {run : Run} {s : ℕ} {rest : List ℕ} (state : State o a run (s ∷ rest)) where
     abbrev c : ℕ
@@ -186,7 +186,7 @@ module _ {T B : Type 0} {ts : Ghosts T} {bs : Ghosts B} {o : Opening T B ts bs} 
       }
 
 -- the brew of the choice that a taker ranks highest
-module _ {T B : Type 0} {ts : Ghosts T} {bs : Ghosts B} (o : Opening T B ts bs) (s : ℕ) (l : s < (w o).figures.takers) (first : Option ℕ) (after : NextAfter (w o) s (cs o) 0 first) where
+module _ {T B : Type 0} {ts : Ghosts T} {bs : Ghosts B} (o : OpenMarket T B ts bs) (s : ℕ) (l : s < (w o).figures.takers) (first : Option ℕ) (after : NextAfter (w o) s (cs o) 0 first) where
   first_there : (d : ℕ) × (first ≡ Some d) × IsFavourite (w o) s (cs o) d
   first_there =
       let (c, listed) = some_brew (cs o) (omega (arith, (is_choice o).size, o.choice.now.figures.some_opened)) in

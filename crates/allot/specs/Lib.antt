@@ -1,4 +1,4 @@
 pub mod Prepared
-pub mod Openings
+pub mod OpenMarkets
 pub mod Runs
 pub mod Best

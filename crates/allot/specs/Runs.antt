@@ -7,10 +7,10 @@ use Rattle.fair.specs.Markets.{Market}
 use Rattle.fair.specs.Allotments.{brew_of}
 use Rattle.fair.specs.Acceptance.{refused}
 use Rattle.acceptance.specs.Running.{holds, Running, work}
-use Rattle.allot.specs.declared.opening.Opening.{Opening}
+use Rattle.allot.specs.declared.open_market.OpenMarket.{OpenMarket}
 use Rattle.allot.specs.declared.run.Held.{Held}
 use Rattle.allot.specs.declared.run.Run.{Run}
-use Rattle.allot.specs.Openings.{brews_opened, market_in}
+use Rattle.allot.specs.OpenMarkets.{brews_opened, market_in}
 
 -- those who wait, the first in line first
 abbrev pub in_line : Run → List ℕ
@@ -55,7 +55,7 @@ abbrev pub LastHeld : Market → (a : List ℕ) (waiting : List Bool) (c places 
 LastHeld w a waiting c places (Some r) = (r < places) × NoneBehind w a waiting c places (r + 1) × ((t : ℕ) × (t < w.figures.takers) × (holds a waiting c t ≡ true) × (w.taker_place c t ≡ r + 1))
 LastHeld w a waiting c places None = NoneBehind w a waiting c places 0
 
-module _ {T B : Type 0} {ts : Ghosts T} {bs : Ghosts B} (o : Opening T B ts bs) where
+module _ {T B : Type 0} {ts : Ghosts T} {bs : Ghosts B} (o : OpenMarket T B ts bs) where
   -- What a run keeps, where the takers stand at the brews of a, and these wait.
   pub record State (a : List ℕ) (run : Run) (line : List ℕ) : Type 0 where
     pub running : Running (market_in o) (brews_opened o) a run.waiting (counts run) (lasts run) line

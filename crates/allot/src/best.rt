@@ -8,7 +8,7 @@ ghost use Rattle.fair.specs.Acceptance.{deferred_acceptance};
 ghost use Rattle.fair.specs.FromBooks.{Complete, market_of};
 
 use crate::fault::AllotFault;
-use crate::opening::Opening;
+use crate::open_market::OpenMarket;
 use crate::prepared::Prepared;
 use assess::market::Market;
 use choices::choice::Choice;
@@ -26,11 +26,11 @@ fn write_best<T: OrderBook, B: OrderBook>(
     ensures { allotment.new ≡ deferred_acceptance (market_of (figures_of choice.now.figures) (T.meaning takers.now) (B.meaning brews.now)) (brews_of choice.now) }
 {
     let books = Prepared::of(takers, brews);
-    let opening = Opening {
+    let market = OpenMarket {
         books: &books,
         choice,
     };
-    opening.best_fair(allotment);
+    market.best_fair(allotment);
 }
 
 /// Writes the best fair allotment over a choice, the brew of each taker. It is refused where the books are not complete

@@ -3,7 +3,7 @@
 
 pub mod best;
 pub mod fault;
-mod opening;
+mod open_market;
 mod prepared;
 mod ranking;
 mod run;

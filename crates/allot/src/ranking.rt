@@ -9,6 +9,7 @@ use orders::book::OrderBook;
 use orders::limits::PLACES;
 
 /// For each chooser of a book, in a row of its own, the numbers of the items from best to worst.
+// One array for the widest book: nothing is allocated.
 #[derive(Drop)]
 pub(crate) struct Ranking {
     items: usize,

@@ -29,6 +29,7 @@ struct Held {
 pub(crate) struct Run {
     /// The takers, by index, who wait.
     line: Line,
+    // Beside the line, which is handed a slice at each call.
     slots: [u16; MOST],
     /// Whether a taker waits.
     waiting: [bool; MOST],

@@ -59,6 +59,7 @@ fn read_entry(card: &Card, k: usize, places: &mut [u16]) -> Result<(), CardFault
 fn places_of(card: &Card) -> Result<[u16; MOST], CardFault>
     ensures { Listed card.now.items card.now.bytes.now result }
 {
+    // As wide as the widest card, as nothing is allocated; 0 and no Option, as the row takes the places as they are.
     let mut places = [0; MOST];
     // A range: an entry is read by its place, which a fault tells.
     for k in 0..card.items() {

@@ -56,6 +56,7 @@ impl<R: CardReader> OrderBook for CardBook<R> {
         if !self.table.has(chooser) {
             return Err(BookFault::Chooser);
         }
+        // As wide as the widest book: nothing is allocated.
         let mut places = [0; MOST];
         let row = &mut places[..self.items()];
         self.reader

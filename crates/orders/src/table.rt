@@ -9,6 +9,7 @@ mod calls;
 
 /// Row after row, the places that each chooser gives the items. A row that begins with 0 is that of
 /// a chooser without an order.
+// One array for the widest book: nothing is allocated.
 #[derive(Drop)]
 pub struct OrderTable {
     choosers: usize,

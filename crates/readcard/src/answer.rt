@@ -91,6 +91,7 @@ fn answer_by<B: OrderBook + Drop>(
 pub fn answer(heap: Global, kind: Kind, items: usize, card: &[u8]) -> Result<Vec<Line>, AllocError>
     ensures { IfOk result (λ lines. lines.items ≡ answer_of (reading_of kind) items card.now) }
 {
+    // A match: each kind has a type of its own, and a closure for each would be one more name.
     match kind {
         Kind::List => answer_by(heap, CardBook::new(WrittenList), items, card),
         Kind::Points => answer_by(heap, CardBook::new(Points), items, card),

@@ -1,13 +1,13 @@
 //! How a taker is considered by the brew where it stands.
 
 ghost use Rattle.std.specs.Prelude.{◌≡◌, ◌≤◌, [], ◌∷◌, length};
-ghost use Rattle.allot.specs.Openings.{brews_opened, market_in};
+ghost use Rattle.allot.specs.OpenMarkets.{brews_opened, market_in};
 ghost use Rattle.allot.specs.Runs.{Considered, FullBehind, in_line, LastHeld, RefusedNext, State};
 ghost use Rattle.fair.specs.Acceptance.{deferred_acceptance};
 ghost use Rattle.fair.specs.Markets.{IsBrew};
 
 use super::Run;
-use crate::opening::Opening;
+use crate::open_market::OpenMarket;
 use assess::place::place_in;
 use orders::book::OrderBook;
 
@@ -15,18 +15,19 @@ impl Run {
     /// The last of the first places of a brew's order, counted from 0, whose taker it holds.
     fn last_held<T: OrderBook, B: OrderBook>(
         &self,
-        opening: &Opening<T, B>,
+        market: &OpenMarket<T, B>,
         stands: &[u8],
         brew: usize,
         places: usize,
     ) -> Option<usize>
-        requires each { length stands.now ≡ opening.now.choice.now.figures.takers }
-        requires brew { IsBrew (market_in opening.now) brew }
-        requires places { places ≤ opening.now.choice.now.figures.takers }
-        ensures { LastHeld (market_in opening.now) stands.now self.now.waiting brew places result }
+        requires each { length stands.now ≡ market.now.choice.now.figures.takers }
+        requires brew { IsBrew (market_in market.now) brew }
+        requires places { places ≤ market.now.choice.now.figures.takers }
+        ensures { LastHeld (market_in market.now) stands.now self.now.waiting brew places result }
     {
+        // A loop: what `find` gives over a range under `rev` is not known, nor to a closure that each place is within it.
         for place in (0..places).rev() {
-            if self.holds(stands, brew, opening.taker_at(brew, place)) {
+            if self.holds(stands, brew, market.taker_at(brew, place)) {
                 return Some(place);
             }
         }
@@ -36,21 +37,21 @@ impl Run {
     /// Exchanges the last taker that a full brew holds for one in front of it, and answers who that was: it is refused.
     fn exchange<T: OrderBook, B: OrderBook>(
         &mut self,
-        opening: &Opening<T, B>,
+        market: &OpenMarket<T, B>,
         stands: &[u8],
         taker: usize,
     ) -> usize
-        requires before { State opening.now stands.now self.old (taker ∷ in_line self.old) }
-        requires full { FullBehind opening.now stands.now self.old taker }
-        ensures refused { RefusedNext opening.now stands.now self.new result }
+        requires before { State market.now stands.now self.old (taker ∷ in_line self.old) }
+        requires full { FullBehind market.now stands.now self.old taker }
+        ensures refused { RefusedNext market.now stands.now self.new result }
         ensures line { in_line self.new ≡ in_line self.old }
     {
         let brew = usize::from(stands[taker]);
         let last = usize::from(self.held[brew].last) - 1;
-        let refused = opening.taker_at(brew, last);
+        let refused = market.taker_at(brew, last);
         self.waiting[taker] = false;
         self.waiting[refused] = true;
-        let before = self.last_held(opening, stands, brew, last).unwrap();
+        let before = self.last_held(market, stands, brew, last).unwrap();
         self.held[brew].last = before as u16 + 1;
         refused
     }
@@ -58,16 +59,16 @@ impl Run {
     /// Has a refused taker stand at the next brew of its order and wait there.
     fn move_on<T: OrderBook, B: OrderBook>(
         &mut self,
-        opening: &Opening<T, B>,
+        market: &OpenMarket<T, B>,
         stands: &mut [u8],
         taker: usize,
     )
-        requires { RefusedNext opening.now stands.old self.old taker }
-        ensures { Considered opening.now stands.old self.old taker stands.new self.new }
+        requires { RefusedNext market.now stands.old self.old taker }
+        ensures { Considered market.now stands.old self.old taker stands.new self.new }
     {
         let brew = usize::from(stands[taker]);
-        let place = place_in(opening.books.takers, taker + 1, brew);
-        let next = opening.next_brew(taker, usize::from(place)).unwrap();
+        let place = place_in(market.books.takers, taker + 1, brew);
+        let next = market.next_brew(taker, usize::from(place)).unwrap();
         stands[taker] = next as u8;
         self.wait(taker);
     }
@@ -75,44 +76,48 @@ impl Run {
     /// Considers a taker at the brew where it stands; whoever is refused there moves on.
     fn consider<T: OrderBook, B: OrderBook>(
         &mut self,
-        opening: &Opening<T, B>,
+        market: &OpenMarket<T, B>,
         stands: &mut [u8],
         taker: usize,
     )
-        requires { State opening.now stands.old self.old (taker ∷ in_line self.old) }
-        ensures { Considered opening.now stands.old self.old taker stands.new self.new }
+        requires { State market.now stands.old self.old (taker ∷ in_line self.old) }
+        ensures { Considered market.now stands.old self.old taker stands.new self.new }
     {
         let brew = usize::from(stands[taker]);
-        let place = place_in(opening.books.brews, brew, taker + 1);
-        if self.has_lot(opening.choice, brew) {
+        let place = place_in(market.books.brews, brew, taker + 1);
+        if self.has_lot(market.choice, brew) {
             self.hold(brew, taker, place);
         } else if self.is_behind(brew, place) {
-            let refused = self.exchange(opening, stands, taker);
-            self.move_on(opening, stands, refused);
+            let refused = self.exchange(market, stands, taker);
+            self.move_on(market, stands, refused);
         } else {
-            self.move_on(opening, stands, taker);
+            self.move_on(market, stands, taker);
         }
     }
 
     /// Considers whoever waits, until nobody does.
     pub(crate) fn finish<T: OrderBook, B: OrderBook>(
         &mut self,
-        opening: &Opening<T, B>,
+        market: &OpenMarket<T, B>,
         stands: &mut [u8],
     )
-        requires { State opening.now stands.old self.old (in_line self.old) }
-        ensures { stands.new ≡ deferred_acceptance (market_in opening.now) (brews_opened opening.now) }
+        requires { State market.now stands.old self.old (in_line self.old) }
+        ensures { stands.new ≡ deferred_acceptance (market_in market.now) (brews_opened market.now) }
     {
         while let Some(taker) = self.line.take(&self.slots) {
-            self.consider(opening, stands, usize::from(taker));
+            self.consider(market, stands, usize::from(taker));
         }
-        self.ends_in_acceptance(opening, stands);
+        self.ends_in_acceptance(market, stands);
     }
 
     /// States that a run in which nobody waits has come to what deferred acceptance gives.
-    fn ends_in_acceptance<T: OrderBook, B: OrderBook>(&self, opening: &Opening<T, B>, stands: &[u8])
-        requires before { State opening.now stands.now self.now (in_line self.now) }
+    fn ends_in_acceptance<T: OrderBook, B: OrderBook>(
+        &self,
+        market: &OpenMarket<T, B>,
+        stands: &[u8],
+    )
+        requires before { State market.now stands.now self.now (in_line self.now) }
         requires none { in_line self.now ≡ [] }
-        ensures { stands.now ≡ deferred_acceptance (market_in opening.now) (brews_opened opening.now) }
+        ensures { stands.now ≡ deferred_acceptance (market_in market.now) (brews_opened market.now) }
     {}
 }

@@ -4,7 +4,7 @@ ghost use Rattle.std.specs.Prelude.{◌≡◌, length};
 ghost use Rattle.allot.specs.Runs.{Fresh, in_line, State};
 
 use super::{BY_BREW, Held, Run};
-use crate::opening::Opening;
+use crate::open_market::OpenMarket;
 use line::Line;
 use orders::book::OrderBook;
 use orders::limits::MOST;
@@ -24,15 +24,15 @@ impl Run {
 
     /// Has every taker stand at the brew of the choice that it ranks highest, and wait there.
     pub(crate) fn begin<T: OrderBook, B: OrderBook>(
-        opening: &Opening<T, B>,
+        market: &OpenMarket<T, B>,
         stands: &mut [u8],
     ) -> Run
-        requires { length stands.old ≡ opening.now.choice.now.figures.takers }
-        ensures { State opening.now stands.new result (in_line result) }
+        requires { length stands.old ≡ market.now.choice.now.figures.takers }
+        ensures { State market.now stands.new result (in_line result) }
     {
         let mut run = Run::fresh();
         for (taker, stand) in stands.iter_mut().enumerate() {
-            *stand = opening.next_brew(taker, 0).unwrap() as u8;
+            *stand = market.next_brew(taker, 0).unwrap() as u8;
             run.wait(taker);
         }
         run

@@ -17,6 +17,7 @@ fn above_all(figures: Figures) -> u32
 fn is_choice(figures: Figures, bits: u32) -> bool
     ensures { result ≡ is_choice figures bits }
 {
+    // `as`: usize has no From of u32.
     bits.count_ones() as usize == figures.opened()
 }
 

@@ -9,7 +9,7 @@ has_lot-requires g c = its_brew_fits c.requires c.from-brew.ensures
 pub hold-requires : goal.hold-requires
 hold-requires g c =
     let lot = ltb-true _ _ (sym c.if-has_lot.ensures) in
-    (first_fits c.requires, its_brew_fits c.requires c.from-brew.ensures, omega (arith, lot, c.args.opening.now.choice.now.figures.few_lots))
+    (first_fits c.requires, its_brew_fits c.requires c.from-brew.ensures, omega (arith, lot, c.args.market.now.choice.now.figures.few_lots))
 
 pub move_on-requires-else-is_behind : goal.move_on-requires-else-is_behind
 move_on-requires-else-is_behind g c = refused_next c.requires c.from-brew.ensures c.place_in-place.ensures (ltb-false _ _ (sym c.if-has_lot.ensures)) (ltb-false _ _ (sym c.if-is_behind.ensures))

@@ -1,7 +1,7 @@
 use Rattle.std.proofs.Common.{◌-◌, sym, subst}
-use Rattle.allot.specs.Openings.{market_in, AtPlace}
+use Rattle.allot.specs.OpenMarkets.{market_in, AtPlace}
 use Rattle.allot.proofs.Facts.{taker_found}
-use Rattle.allot.proofs.opening.Opening.taker_at.Goals as goal
+use Rattle.allot.proofs.open_market.OpenMarket.taker_at.Goals as goal
 
 pub returns : goal.returns
 returns g c =

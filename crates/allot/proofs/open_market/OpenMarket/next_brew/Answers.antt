@@ -3,9 +3,9 @@ use Rattle.std.proofs.lemmas.Iterator.{first_from_find, YieldsList-from_slice, Y
 use Rattle.std.proofs.lemmas.Iterator.Consumers.{YieldsList-at}
 use Rattle.std.proofs.lemmas.List.{map-id, take_rest}
 use Rattle.fair.specs.Choices.{among}
-use Rattle.allot.specs.Openings.{brews_opened}
+use Rattle.allot.specs.OpenMarkets.{brews_opened}
 use Rattle.allot.proofs.Facts.{brew_found}
-use Rattle.allot.proofs.opening.Opening.next_brew.Goals as goal
+use Rattle.allot.proofs.open_market.OpenMarket.next_brew.Goals as goal
 
 pub returns : goal.returns
 returns g c =

@@ -11,16 +11,16 @@ use orders::book::OrderBook;
 
 /// Prepared books that are complete for the figures of a choice, and that choice.
 #[derive(Drop)]
-pub(crate) struct Opening<'p, 't, 'b, T: OrderBook, B: OrderBook> {
+pub(crate) struct OpenMarket<'p, 't, 'b, T: OrderBook, B: OrderBook> {
     pub(crate) books: &'p Prepared<'t, 'b, T, B>,
     pub(crate) choice: &'p Choice,
     ghost complete: { Complete (figures_of choice.now.figures) (T.meaning books.now.takers.now) (B.meaning books.now.brews.now) } by { Complete-prop _ _ _ },
 }
 
-impl<T: OrderBook, B: OrderBook> Opening<'_, '_, '_, T, B> {
+impl<T: OrderBook, B: OrderBook> OpenMarket<'_, '_, '_, T, B> {
     ghost use Rattle.std.specs.Prelude.{◌≡◌, ◌<◌, ◌≤◌, length};
     ghost use Rattle.acceptance.specs.Rankings.{NextAfter};
-    ghost use Rattle.allot.specs.Openings.{AtPlace, brews_opened, market_in};
+    ghost use Rattle.allot.specs.OpenMarkets.{AtPlace, brews_opened, market_in};
     ghost use Rattle.fair.specs.Acceptance.{deferred_acceptance};
     ghost use Rattle.fair.specs.Markets.{IsBrew};
 
