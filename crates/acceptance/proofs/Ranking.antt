@@ -5,7 +5,7 @@ use Rattle.std.proofs.lemmas.List.{length-set, get_or-set_same, get_or-set_other
 use Rattle.std.proofs.lemmas.Bool.{cases_eq, and_from, cond-true}
 use Rattle.std.proofs.lemmas.Bool.Decides.{nat_tests}
 use Rattle.orders.specs.Books.{Meaning, Sound, IsOrder, place_in, within}
-use Rattle.orders.specs.Written.{row_end}
+use Rattle.orders.proofs.Written.{row_end}
 use Rattle.tally.specs.Tally.{position}
 use Rattle.tally.proofs.Positions.{position_le, position_is, all_stand}
 use Rattle.fair.specs.FromBooks.{AllOrdered}

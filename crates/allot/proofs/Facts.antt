@@ -4,7 +4,7 @@ use Rattle.std.specs.List.{slice_range, AllWithin, HoldsAt}
 use Rattle.std.proofs.lemmas.List.{get_or-take, get_or-drop, length-take, length-drop}
 use Rattle.std.proofs.lemmas.Bool.{both_ways, and_parts, leb-true}
 use Rattle.orders.specs.Books.{Meaning, Sound, within}
-use Rattle.orders.specs.Written.{row_end}
+use Rattle.orders.proofs.Written.{row_end}
 use Rattle.orders.specs.declared.book.OrderBook.{Ghosts}
 use Rattle.fair.specs.Markets.{InLimits, IsBrew, Market, SoundMarket}
 use Rattle.fair.specs.Choices.{among, IsChoice}

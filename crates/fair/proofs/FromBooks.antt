@@ -4,7 +4,7 @@ use Rattle.std.proofs.lemmas.Bool.{and_from, cond-true}
 use Rattle.std.proofs.lemmas.Bool.Decides.{nat_tests}
 use Rattle.std.specs.Option.{option_map}
 use Rattle.orders.specs.Books.{Meaning, Sound, place_in, within}
-use Rattle.orders.specs.Written.{row_inside}
+use Rattle.orders.proofs.Written.{row_inside}
 use Rattle.fair.specs.Markets.{Figures, InLimits, SoundMarket}
 use Rattle.fair.specs.FromBooks.{market_of, AllOrdered, Complete}
 

@@ -3,7 +3,7 @@ use Rattle.std.proofs.Common.{◌≡◌, ℕ, ◌+◌, ◌-◌, ◌<◌, Bool, t
 use Rattle.std.proofs.lemmas.Bool.{eqb-true, and_parts}
 use Rattle.std.proofs.lemmas.Bool.Decides.{nat_tests}
 use Rattle.orders.specs.Books.{within}
-use Rattle.orders.specs.Written.{row_inside}
+use Rattle.orders.proofs.Written.{row_inside}
 use Rattle.tally.specs.Tally.{tally, position}
 use Rattle.tally.proofs.Tallies.{tally_full}
 use Rattle.fair.specs.Markets.{Market, InLimits, SoundMarket}

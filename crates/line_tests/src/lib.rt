@@ -4,7 +4,7 @@
 #[cfg(test)]
 mod tests {
     use line::Line;
-    use refusal::{Fault, Refusal};
+    use refusal::Fault;
     use std::test::Fail;
 
     #[derive(Clone, Copy, PartialEq, Eq, Debug)]
@@ -28,8 +28,9 @@ mod tests {
         let mut slots = [0u16; 3];
         let mut line = full_line(&mut slots)?;
         assert_eq!(rt;
-            line.put(&mut slots, 8).map_err(|fault| fault.refusal()),
-            Err(Refusal::new(21, 3))
+            line.put(&mut slots, 8)
+                .map_err(|fault| (fault.number(), fault.place())),
+            Err((21, 3))
         );
         assert_eq!(rt; slots, [4, 9, 2]);
         assert_eq!(rt; line.len(&slots), 3);
@@ -74,8 +75,9 @@ mod tests {
         line.put(&mut slots, first)?;
         line.put(&mut slots, second)?;
         assert_eq!(rt;
-            line.put(&mut slots, third).map_err(|fault| fault.refusal()),
-            Err(Refusal::new(21, 2))
+            line.put(&mut slots, third)
+                .map_err(|fault| (fault.number(), fault.place())),
+            Err((21, 2))
         );
         assert_eq!(rt; line.take(&slots), Some(first));
         line.put(&mut slots, third)?;
@@ -90,8 +92,9 @@ mod tests {
         let mut slots: [u16; 0] = [];
         let mut line = Line::new();
         assert_eq!(rt;
-            line.put(&mut slots, 4).map_err(|fault| fault.refusal()),
-            Err(Refusal::new(21, 0))
+            line.put(&mut slots, 4)
+                .map_err(|fault| (fault.number(), fault.place())),
+            Err((21, 0))
         );
         assert_eq!(rt; line.len(&slots), 0);
         assert_eq!(rt; line.take(&slots), None);

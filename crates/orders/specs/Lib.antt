@@ -3,4 +3,3 @@ pub mod Books
 pub mod Rows
 pub mod Tables
 pub mod Kept
-pub mod Written

@@ -65,10 +65,10 @@ fn print_envies<T: OrderBook, B: OrderBook>(
 }
 
 /// A book of so many items with a chooser for each card.
-fn book_of<R: CardReader + Drop, const N: usize>(
+fn book_of<R: CardReader + Drop>(
     kind: R,
     items: usize,
-    cards: &[[u8; N]],
+    cards: &[&[u8]],
 ) -> anyhow::Result<CardBook<R>> {
     let mut book = CardBook::new(kind);
     fill(&mut book, items, cards).map_err(|_| anyhow!("a card is refused"))?;
@@ -76,10 +76,7 @@ fn book_of<R: CardReader + Drop, const N: usize>(
 }
 
 /// Prints the choices of a round, and what there is to say of the allotment written by hand.
-fn print_round<R: CardReader + Drop, const T: usize, const B: usize>(
-    rt: &HostRuntime,
-    round: Round<'_, R, T, B>,
-) -> anyhow::Result<()> {
+fn print_round<R: CardReader + Drop>(rt: &HostRuntime, round: Round<'_, R>) -> anyhow::Result<()> {
     rt.println(round.title)?;
     let takers = book_of(WrittenList, round.brews.len(), round.takers)?;
     let brews = book_of(round.kind, round.takers.len(), round.brews)?;

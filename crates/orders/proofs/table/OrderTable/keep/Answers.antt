@@ -1,6 +1,6 @@
 use Rattle.std.proofs.Common.{ap}
 use mathlib.Core.Path.{fun_ext}
-use Rattle.orders.specs.Written.{rewritten, row_fits}
+use Rattle.orders.proofs.Written.{rewritten, row_fits}
 use Rattle.orders.proofs.table.OrderTable.keep.Goals as goal
 
 pub slice_bounds-copy_from_slice-end : goal.slice_bounds-copy_from_slice-end
