@@ -36,6 +36,7 @@ fn write_best<T: OrderBook, B: OrderBook>(
 /// Writes the best fair allotment over a choice, the brew of each taker. It is refused where the books are not complete
 /// for the figures of the choice, and else where the list has another length than there are takers; refused, the list
 /// stays as it was.
+// Books and choice, and no `Market`: a choice has its own figures.
 pub fn best_fair<T: OrderBook, B: OrderBook>(
     takers: &T,
     brews: &B,

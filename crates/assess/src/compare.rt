@@ -19,6 +19,7 @@ pub fn is_better<T: OrderBook>(figures: &Figures, takers: &T, a: &[u8], b: &[u8]
     gains(takers, a, b, figures.takers()).is_some_and(|higher| higher > 0)
 }
 
+// The book and both lists are three parameters: a struct of them would be made for one call.
 /// How many of the first `n` takers rank their brew in `a` higher than in `b`; none where one ranks it lower.
 fn gains<T: OrderBook>(takers: &T, a: &[u8], b: &[u8], n: usize) -> Option<usize>
     ensures { GainsWithoutLoss (T.meaning takers.now) a.now b.now n result }

@@ -23,6 +23,7 @@ pub fn lowest_unfilled(figures: &Figures, allotment: &[u8]) -> Option<usize>
     first_partly(&counts, figures.lots(), figures.brews())
 }
 
+// As many counts as the most brews: nothing is allocated.
 /// How many of the first `n` entries are each of so many brews.
 fn counts(allotment: &[u8], brews: usize, n: usize) -> [u16; BREWS]
     requires { (brews ≤ 16) × (n ≤ 432) }

@@ -10,7 +10,7 @@ use orders::book::OrderBook;
 pub fn without_order<B: OrderBook>(book: &B) -> Option<usize>
     ensures { WithoutOrder (B.meaning book.now) result }
 {
-    // A loop: of `find` over `1..=n` nothing says yet which numbers the range gives.
+    // A loop: that `find` over a range gives the lowest number, or none, is not proved.
     for chooser in 1..=book.choosers() {
         if book.place(chooser, 1).is_none() {
             return Some(chooser);

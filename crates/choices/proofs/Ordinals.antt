@@ -12,8 +12,13 @@ use Rattle.choices.specs.declared.figures.Figures.{Figures}
 use Rattle.choices.specs.Bits.{brews_in}
 use Rattle.choices.specs.Chosen.{brews_of}
 use Rattle.choices.specs.Rounds.{figures_of}
-use Rattle.choices.specs.Order.{choices_from, FoundFirst, HighestBelow, NextOf, StandsAt, choices_below, is_choice, passing}
+use Rattle.choices.specs.Order.{choices_from, FirstOf, HighestBelow, NextOf, StandsAt, choices_below, is_choice, passing}
 use Rattle.choices.proofs.Numbered.{length_ones, listed_map, picks_listed}
+
+-- what is found below all numbers of a round is its first choice
+abbrev pub FoundFirst : Figures → Option Choice → Type 0
+FoundFirst f (Some c) = FirstOf f c
+FoundFirst f None = ⊥
 
 -- what stands where a part of a list begins
 part_begins : (xs : List ℕ) (i b : ℕ) (rest : List ℕ) → drop i xs ≡ b ∷ rest → (i < length xs) × (get_or xs i 0 ≡ b) × (drop (i + 1) xs ≡ rest)

@@ -45,11 +45,6 @@ abbrev pub HighestBelow : Figures → ℕ → Option Choice → Type 0
 HighestBelow f b (Some c) = (c.figures ≡ f) × (c.bits < b) × (choices_below f b ≡ c.bits ∷ choices_below f c.bits)
 HighestBelow f b None = choices_below f b ≡ []
 
--- what is found below all numbers of a round is its first choice
-abbrev pub FoundFirst : Figures → Option Choice → Type 0
-FoundFirst f (Some c) = FirstOf f c
-FoundFirst f None = ⊥
-
 -- how many numbers from b on stand for choices
 abbrev pub choices_from : Figures → ℕ → ℕ
 choices_from f b = count_by (is_choice f) (range_with_len b (2 ^ f.brews - b))

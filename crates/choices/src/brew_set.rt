@@ -51,7 +51,7 @@ impl BrewSet {
         }
     }
 
-    /// Adds a brew of the round that the set had not, and tells whether it is one.
+    /// Adds a brew of the round that the set had not, and tells whether it did.
     pub(crate) fn insert(&mut self, brew: usize) -> bool
         ensures told { result ≡ is_new self.old brew }
         ensures added { IsTrue result → Added self.old brew self.new }

@@ -1,6 +1,6 @@
 //! The one table that keeps orders, whatever kind of card they came from.
 
-ghost use Rattle.std.specs.Prelude.{◌≡◌, ◌*◌, ◌≤◌, length};
+ghost use Rattle.std.specs.Prelude.{◌≡◌, length};
 ghost use Rattle.orders.specs.Rows.{HoldsOrders, WithinLimits};
 
 use crate::limits::PLACES;

@@ -25,6 +25,7 @@ pub enum Kind {
 #[derive(Clone, Copy, Debug)]
 pub struct UnknownKind;
 
+// By hand: the message is under contract.
 impl fmt::Display for UnknownKind {
     ghost output = { λ _. Some (codes "KIND is neither list nor points") };
 
@@ -64,6 +65,7 @@ fn place_lines<B: OrderBook>(heap: Global, book: &B) -> Result<Vec<Line>, AllocE
 {
     let mut lines = Vec::new(heap);
     lines.push(Line::Ok)?;
+    // Items are numbers: the book is asked for each.
     for item in 1..=book.items() {
         if let Some(place) = book.place(1, item) {
             lines.push(Line::Place { item, place })?;

@@ -1,4 +1,4 @@
-//! The number and the place by which every refusal is told.
+//! The number and the place by which a refusal is told.
 #![tactic(auto)]
 
 ghost use Rattle.std.specs.Prelude.{◌≡◌, Some};
@@ -8,6 +8,7 @@ ghost use Rattle.refusal.specs.Told.{refusal_text, told};
 use std::fmt;
 
 /// What a refusal tells.
+// Numbers, and 0 for no place: they are those of the table of refusals, and are printed.
 #[derive(Clone, Copy, PartialEq, Eq, Debug)]
 pub struct Refusal {
     /// Which of the refusals it is.

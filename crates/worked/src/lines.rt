@@ -16,6 +16,7 @@ use std::fmt;
 #[derive(Drop)]
 pub struct ChoiceLine {
     choice: Choice,
+    // As wide as the most takers: a line allocates nothing, and cannot fail.
     allotment: [u8; MOST],
 }
 
@@ -30,6 +31,7 @@ impl fmt::Display for ChoiceLine {
     }
 }
 
+// Not a `Market`: a choice has its own figures.
 /// The line of a choice and its best fair allotment; none where the books are not complete.
 pub fn choice_line<T: OrderBook, B: OrderBook>(
     takers: &T,

@@ -1,4 +1,4 @@
-//! The parts of the lines that the program prints.
+//! Lines that the program prints, and parts of them.
 
 ghost use Rattle.std.specs.Prelude.{Some};
 ghost use Rattle.choices.specs.Chosen.{brews_of};
@@ -24,6 +24,7 @@ impl fmt::Display for Spaced<'_> {
 }
 
 /// The brews of a choice, each behind a space.
+// Not `Spaced`: a choice has no slice of its brews.
 #[derive(Clone, Copy)]
 pub struct Opened<'a>(pub &'a Choice);
 
@@ -32,6 +33,7 @@ impl fmt::Display for Opened<'_> {
 
     #[tactic(auto, using(crate::proofs::Spacing::writing))]
     fn fmt<W: fmt::Write>(&self, f: &mut fmt::Formatter<W>) -> fmt::Result {
+        // Brews are numbers: the choice is asked for each.
         for brew in 1..=self.0.figures().brews() {
             if self.0.has(brew) {
                 write!(f, " {brew}")?;

@@ -21,6 +21,7 @@ impl Choice {
     pub fn has(&self, brew: usize) -> bool
         ensures { result ≡ among (brews_of self.now) brew }
     {
+        // A choice is a record of plain fields, of which a set is made for the question.
         let set = BrewSet {
             brews: self.figures.brews(),
             bits: self.bits,

@@ -6,6 +6,8 @@ ghost use Rattle.choices.specs.Order.{choices_from, FirstOf, HighestBelow, is_ch
 use crate::choice::Choice;
 use crate::figures::Figures;
 
+// Figures and a number are two parameters here, and no set or choice: most numbers stand for no choice.
+
 /// One above the highest number that stands for a set of the round's brews.
 fn above_all(figures: Figures) -> u32
     ensures { result ≡ 2 ^ figures.brews }
@@ -27,7 +29,7 @@ fn highest_below(figures: Figures, bits: u32) -> Option<Choice>
     requires { bits ≤ 2 ^ figures.brews }
     ensures { HighestBelow figures bits result }
 {
-    // A loop: the check does not find what `find` gives over a range from behind, and a chain before `?` needs a function more.
+    // A loop: that `find` over a range under `rev` gives the highest number is not proved.
     for lower in (0..bits).rev() {
         if is_choice(figures, lower) {
             return Some(Choice {

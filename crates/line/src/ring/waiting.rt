@@ -1,7 +1,7 @@
 //! What a waiting line does.
 
 ghost use Rattle.std.specs.Prelude.{◌≡◌, ◌<◌, List, [], length};
-ghost use Rattle.line.specs.Waiting.{held, start, Begun, Empty, Over, place_at, Put, PutDone, Take, TakeDone};
+ghost use Rattle.line.specs.Waiting.{held, start, Begun, Empty, Over, place_at, Put, Take};
 
 use crate::fault::LineFault;
 use crate::ring::Line;

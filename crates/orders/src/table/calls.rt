@@ -83,7 +83,7 @@ impl OrderTable {
         }
         let start = (chooser - 1) * self.items;
         let row = &self.places[start..start + self.items];
-        // A 0 and no Option: the table's memory is fixed, and no place of an order is 0.
+        // 0 and no Option: no place is 0, and an Option in each would double the table.
         (row[0] != 0).then_some(row)
     }
 
