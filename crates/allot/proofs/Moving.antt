@@ -51,6 +51,10 @@ module _ {T B : Type 0} {ts : Ghosts T} {bs : Ghosts B} {o : OpenMarket T B ts b
       pub stands_at_a_brew : IsBrew (w o) brew
       stands_at_a_brew = subst (IsBrew (w o)) (sym at) own_brew
 
+      -- it has a place there
+      pub brew_places : 1 ≤ (w o).taker_place brew s
+      brew_places = (place_fits o brew s stands_at_a_brew first_in_range).0
+
       pub its_brew_fits : brew < 17
       its_brew_fits = (brew_fits o brew stands_at_a_brew).1
 
@@ -143,6 +147,12 @@ module _ {T B : Type 0} {ts : Ghosts T} {bs : Ghosts B} {o : OpenMarket T B ts b
   module _ {a : List ℕ} {run : Run} {s : ℕ} (first : RefusedNext o a run s) where
     pub room_to_wait : length (in_line run) < 432
     room_to_wait = omega (arith, room_behind first.state.running.waits, (takers_sound o).few_choosers, o.complete.a_taker_each)
+
+    -- the brew where it stands has a place in its order
+    pub taker_places : {brew : ℕ} → brew ≡ brew_of a s → 1 ≤ (w o).brew_place s brew
+    taker_places at =
+        let l = first_in_range first.state in
+        subst (λ c. 1 ≤ (w o).brew_place s c) (sym at) (placed (takers_sound o) o.complete (is_choice o) s l (brew_of a s) (first.state.running.reached.chosen s l))
 
     module _ {brew place : ℕ} (at : brew ≡ brew_of a s) (is : place ≡ (w o).brew_place s brew) where
       pub place_within_brews : place ≤ o.choice.now.figures.brews
