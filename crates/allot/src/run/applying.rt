@@ -46,12 +46,12 @@ impl Run {
         ensures line { in_line self.new ≡ in_line self.old }
     {
         let brew = usize::from(stands[taker]);
-        let last = usize::from(self.held[brew].last) - 1;
+        let last = usize::from(self.held[brew].last.unwrap()) - 1;
         let refused = market.taker_at(brew, last);
         self.waiting[taker] = false;
         self.waiting[refused] = true;
         let before = self.last_held(market, stands, brew, last).unwrap();
-        self.held[brew].last = before as u16 + 1;
+        self.held[brew].last = Some(before as u16 + 1);
         refused
     }
 
