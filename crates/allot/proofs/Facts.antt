@@ -1,6 +1,8 @@
 -- What a choice and two prepared books are known to be.
-use Rattle.std.proofs.Common.{◌≡◌, ℕ, ◌+◌, ◌-◌, ◌*◌, ◌<◌, ◌≤◌, Bool, true, false, leb, List, length, drop, get_or, Option, MatchOption, sym, ap, ◌∙◌, subst, arith}
+use Rattle.std.proofs.Common.{◌≡◌, ℕ, ◌+◌, ◌-◌, ◌*◌, ◌<◌, ◌≤◌, max, Bool, true, false, leb, List, length, drop, get_or, Some, None, Option, MatchOption, unwrap_or, refl, sym, ap, ◌∙◌, subst, arith}
 use Rattle.std.specs.List.{slice_range, AllWithin, HoldsAt}
+use Rattle.std.specs.Option.{IsSome, option_cmp}
+use Rattle.std.specs.Ordering.{nat_cmp, ord_max}
 use Rattle.std.proofs.lemmas.List.{get_or-take, get_or-drop, length-take, length-drop}
 use Rattle.std.proofs.lemmas.Bool.{both_ways, and_parts, leb-true}
 use Rattle.orders.specs.Books.{Meaning, Sound, within}
@@ -36,6 +38,20 @@ limits_of f = record {
 -- an entry of a row of a table
 get_or-row : (table : List ℕ) (start n p : ℕ) → p < n → get_or (slice_range table start (start + n)) p 0 ≡ get_or table (start + p) 0
 get_or-row table start n p l = get_or-take (start + n - start) (drop start table) p 0 (omega arith) ∙ get_or-drop start table p 0
+
+-- a place from 1 on is one that the book answers
+pub is_placed : {answer place : Option ℕ} → answer ≡ place → 1 ≤ unwrap_or place 0 → IsSome answer
+is_placed {answer = Some p} is low = refl
+is_placed {answer = None} is low = absurd (omega (arith, ap (λ o. unwrap_or o 0) is))
+
+-- the place that is answered
+pub placed_at : {answer place : Option ℕ} {p : ℕ} → answer ≡ place → answer ≡ Some p → p ≡ unwrap_or place 0
+placed_at is some = ap (λ o. unwrap_or o 0) (sym some ∙ is)
+
+-- the farther of a place that may be there and another
+pub farther : (last : Option ℕ) (place : ℕ) → unwrap_or (ord_max (option_cmp nat_cmp) last (Some place)) 0 ≡ max (unwrap_or last 0) place
+farther None place = omega arith
+farther (Some last) place = grind arith
 
 pub choice_of : (c : Choice) → IsChoice (figures_of c.figures) (brews_of c)
 choice_of c = record { size = c.size; ascending = brews_ascending 0 c.figures.brews c.figures.brews c.bits (omega arith) }

@@ -1,5 +1,5 @@
 -- The steps of a run, as the code takes them.
-use Rattle.std.proofs.Common.{◌≡◌, ℕ, ◌+◌, ◌-◌, ◌<◌, ◌≤◌, max, Bool, true, ◌⊎◌, List, [], ◌∷◌, ◌++◌, length, get_or, set, replicate, map, Some, None, Option, false, refl, sym, ap, ◌∙◌, subst, inl, inr, ⊎_elim, arith, below_more}
+use Rattle.std.proofs.Common.{◌≡◌, ℕ, ◌+◌, ◌-◌, ◌<◌, ◌≤◌, max, Bool, true, ◌⊎◌, List, [], ◌∷◌, ◌++◌, length, get_or, set, replicate, map, Some, None, Option, unwrap_or, false, refl, sym, ap, ◌∙◌, subst, inl, inr, ⊎_elim, arith, below_more}
 use native.Mathlib.Nat.{le-max_left, le-max_right, max-eq_left, max-eq_right}
 use Rattle.std.specs.List.{range_with_len}
 use Rattle.std.specs.Option.{IsSome, is_some}
@@ -25,7 +25,7 @@ use Rattle.allot.specs.declared.open_market.OpenMarket.{OpenMarket}
 use Rattle.allot.specs.declared.run.Run.{Run}
 use Rattle.allot.specs.OpenMarkets.{AtPlace}
 use Rattle.allot.specs.Runs.{in_line, none_held, counts, lasts, State, Fresh, HoldsMore, Waiting, LastHeld, FullBehind, NoneBehind, RefusedNext, Considered}
-use Rattle.allot.proofs.Facts.{w, cs, takers_sound, is_choice, sound_market, taker_fits, brew_fits, place_fits}
+use Rattle.allot.proofs.Facts.{is_placed, w, cs, takers_sound, is_choice, sound_market, taker_fits, brew_fits, place_fits}
 
 -- a list with entries has one
 some_brew : (cs : List ℕ) → 1 ≤ length cs → (c : ℕ) × (among cs c ≡ true)
@@ -51,13 +51,25 @@ module _ {T B : Type 0} {ts : Ghosts T} {bs : Ghosts B} {o : OpenMarket T B ts b
       pub stands_at_a_brew : IsBrew (w o) brew
       stands_at_a_brew = subst (IsBrew (w o)) (sym at) own_brew
 
+      -- it has a place there
+      pub brew_places : 1 ≤ (w o).taker_place brew s
+      brew_places = (place_fits o brew s stands_at_a_brew first_in_range).0
+
       pub its_brew_fits : brew < 17
       its_brew_fits = (brew_fits o brew stands_at_a_brew).1
 
+      -- what is noted of the last that it holds
+      last_of : unwrap_or (get_or run.held brew none_held).last 0 ≡ get_or (lasts run) c 0
+      last_of = sym (get_or-map (λ h. unwrap_or h.last 0) run.held brew none_held) ∙ ap (λ k. get_or (lasts run) k 0) at
+
+      -- where it holds one behind s, one is noted
+      pub has_last : FullBehind o a run s → IsSome (get_or run.held brew none_held).last
+      has_last behind = is_placed refl (omega (arith, last_of, behind.behind))
+
       -- the brew is full, and holds its last taker behind s
-      module _ {last : ℕ} (noted : last ≡ (get_or run.held brew none_held).last) (behind : FullBehind o a run s) where
+      module _ {last : ℕ} (noted : last ≡ unwrap_or (get_or run.held brew none_held).last 0) (behind : FullBehind o a run s) where
         is_noted : last ≡ get_or (lasts run) c 0
-        is_noted = noted ∙ sym (get_or-map (λ h. h.last) run.held brew none_held) ∙ ap (λ k. get_or (lasts run) k 0) at
+        is_noted = noted ∙ last_of
 
         last_is : (t : ℕ) × (t < (w o).figures.takers) × (holds a run.waiting c t ≡ true) × ((w o).taker_place c t ≡ get_or (lasts run) c 0)
         last_is = (state.running.held c own_brew).met (omega (arith, behind.full, o.choice.now.figures.some_lots))
@@ -88,12 +100,12 @@ module _ {T B : Type 0} {ts : Ghosts T} {bs : Ghosts B} {o : OpenMarket T B ts b
 
           -- the last of those held then is noted, and r is refused
           pub exchange_next : {p : ℕ} {before : Option ℕ} {after : Run} → LastHeld (w o) a marks brew (last - 1) before → before ≡ Some p
-              → after.waiting ≡ marks → after.held ≡ set run.held brew (record { count = (get_or run.held brew none_held).count; last = p + 1 }) → in_line after ≡ rest → RefusedNext o a after r
+              → after.waiting ≡ marks → after.held ≡ set run.held brew (record { count = (get_or run.held brew none_held).count; last = Some (p + 1) }) → in_line after ≡ rest → RefusedNext o a after r
           exchange_next {p} {before} {after} found some marked held line = record {
             state = record {
               running = state_of marked
                   (ap (map (λ h. h.count)) held ∙ map-set_same (λ h. h.count) run.held brew _ none_held refl)
-                  (ap (map (λ h. h.last)) held ∙ map-set (λ h. h.last) run.held brew _ ∙ ap (λ k. set (lasts run) k (p + 1)) at)
+                  (ap (map (λ h. unwrap_or h.last 0)) held ∙ map-set (λ h. unwrap_or h.last 0) run.held brew _ ∙ ap (λ k. set (lasts run) k (p + 1)) at)
                   (ap (λ xs. r ∷ xs) line)
                   (exchanged_state (sound_market o) (is_choice o) state.running there.taker r_held behind.full (sym at_last) front (p + 1) near none_behind is_last.2);
             };
@@ -144,6 +156,12 @@ module _ {T B : Type 0} {ts : Ghosts T} {bs : Ghosts B} {o : OpenMarket T B ts b
     pub room_to_wait : length (in_line run) < 432
     room_to_wait = omega (arith, room_behind first.state.running.waits, (takers_sound o).few_choosers, o.complete.a_taker_each)
 
+    -- the brew where it stands has a place in its order
+    pub taker_places : {brew : ℕ} → brew ≡ brew_of a s → 1 ≤ (w o).brew_place s brew
+    taker_places at =
+        let l = first_in_range first.state in
+        subst (λ c. 1 ≤ (w o).brew_place s c) (sym at) (placed (takers_sound o) o.complete (is_choice o) s l (brew_of a s) (first.state.running.reached.chosen s l))
+
     module _ {brew place : ℕ} (at : brew ≡ brew_of a s) (is : place ≡ (w o).brew_place s brew) where
       pub place_within_brews : place ≤ o.choice.now.figures.brews
       place_within_brews =
@@ -166,7 +184,7 @@ module _ {T B : Type 0} {ts : Ghosts T} {bs : Ghosts B} {o : OpenMarket T B ts b
         moved_considered {then} waiting =
             let kept = turned (sound_market o) (is_choice o) (moved (sound_market o) (is_choice o) first.state.running first.refusal d is_next) in
             record {
-              state = record { running = state_of waiting.marks (ap (map (λ h. h.count)) waiting.held) (ap (map (λ h. h.last)) waiting.held) waiting.behind kept };
+              state = record { running = state_of waiting.marks (ap (map (λ h. h.count)) waiting.held) (ap (map (λ h. unwrap_or h.last 0)) waiting.held) waiting.behind kept };
               less = subst (λ x. work (w o) (cs o) (set a s d) x < work (w o) (cs o) a (s ∷ in_line run)) (sym waiting.behind) (less_when_moved (sound_market o) (is_choice o) first.state.running first.refusal d is_next);
             }
 
@@ -180,7 +198,7 @@ module _ {T B : Type 0} {ts : Ghosts T} {bs : Ghosts B} {o : OpenMarket T B ts b
       let none : (c : ℕ) → IsBrew (w o) c → ◌≡◌ {A = ℕ} (get_or (replicate 17 0) c 0) 0 = λ c brew. get_or-replicate 17 c 0 0 (brew_fits o c brew).1 in
       let room : (w o).figures.brews < length (replicate {A = ℕ} 17 0) = omega (arith, length-replicate {A = ℕ} 17 0, o.choice.now.figures.few_brews) in
       record {
-        running = state_of fresh.all_wait (ap (map (λ h. h.count)) fresh.nobody) (ap (map (λ h. h.last)) fresh.nobody) fresh.all_in_line
+        running = state_of fresh.all_wait (ap (map (λ h. h.count)) fresh.nobody) (ap (map (λ h. unwrap_or h.last 0)) fresh.nobody) fresh.all_in_line
             (begins (sound_market o) (is_choice o) a (replicate 432 true) (replicate 17 0) (replicate 17 0) each first (omega (arith, length-replicate 432 true, (takers_sound o).few_choosers, o.complete.a_taker_each))
             (λ t l. get_or-replicate 432 t true false (taker_fits o t l)) (room, room) none none);
       }

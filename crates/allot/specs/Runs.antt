@@ -1,6 +1,7 @@
 -- What the steps of a run do to it.
 use Rattle.std.specs.Prelude.{◌≡◌, ℕ, ◌+◌, ◌<◌, ◌≤◌, max, Bool, true, false, List, [], ◌∷◌, ◌++◌, Some, None, Option, map, replicate, slice_index, slice_set}
 use Rattle.std.specs.List.{range_with_len}
+use Rattle.std.specs.Option.{unwrap_or}
 use Rattle.line.specs.Waiting.{held}
 use Rattle.orders.specs.declared.book.OrderBook.{Ghosts}
 use Rattle.fair.specs.Markets.{Market}
@@ -18,14 +19,14 @@ in_line run = held run.line run.slots
 
 -- nobody is held
 abbrev pub none_held : Held
-none_held = record { count = 0; last = 0 }
+none_held = record { count = 0; last = None }
 
--- how many takers each brew holds, and the place of the last of them
+-- how many takers each brew holds, and the place of the last of them, or 0 where there is none
 abbrev pub counts : Run → List ℕ
 counts run = map (λ h. h.count) run.held
 
 abbrev pub lasts : Run → List ℕ
-lasts run = map (λ h. h.last) run.held
+lasts run = map (λ h. unwrap_or h.last 0) run.held
 
 -- A brew holds one taker more, and notes the farther of two places.
 pub record HoldsMore (brew taker place : ℕ) (before after : Run) : Type 0 where

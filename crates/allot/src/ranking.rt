@@ -4,7 +4,6 @@ ghost use Rattle.std.specs.Prelude.{◌≡◌, ◌+◌, ◌*◌, ◌<◌, ◌≤
 ghost use Rattle.acceptance.specs.Rankings.{RankedTo};
 ghost use Rattle.fair.specs.FromBooks.{AllOrdered};
 
-use assess::place::place_in;
 use orders::book::OrderBook;
 use orders::limits::PLACES;
 
@@ -27,7 +26,7 @@ fn rank_row<B: OrderBook>(book: &B, chooser: usize, table: &mut [u16])
     let start = chooser * items;
     // A range: each item goes to the place that the book gives it, and not along the table.
     for item in 0..items {
-        let place = place_in(book, chooser + 1, item + 1);
+        let place = book.place(chooser + 1, item + 1).unwrap();
         table[start + (usize::from(place) - 1)] = (item + 1) as u16;
     }
 }

@@ -19,8 +19,7 @@ struct Held {
     /// How many takers.
     count: u16,
     /// The place of the last of them in the order of the brew.
-    // 0 where it holds none, and no Option: the proofs compare it with places as a number.
-    last: u16,
+    last: Option<u16>,
 }
 
 /// Who waits, and what each brew holds. Every taker stands at a brew; those who wait in line have yet to be considered

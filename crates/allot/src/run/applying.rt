@@ -8,7 +8,6 @@ ghost use Rattle.fair.specs.Markets.{IsBrew};
 
 use super::Run;
 use crate::open_market::OpenMarket;
-use assess::place::place_in;
 use orders::book::OrderBook;
 
 impl Run {
@@ -47,12 +46,12 @@ impl Run {
         ensures line { in_line self.new ≡ in_line self.old }
     {
         let brew = usize::from(stands[taker]);
-        let last = usize::from(self.held[brew].last) - 1;
+        let last = usize::from(self.held[brew].last.unwrap()) - 1;
         let refused = market.taker_at(brew, last);
         self.waiting[taker] = false;
         self.waiting[refused] = true;
         let before = self.last_held(market, stands, brew, last).unwrap();
-        self.held[brew].last = before as u16 + 1;
+        self.held[brew].last = Some(before as u16 + 1);
         refused
     }
 
@@ -67,7 +66,7 @@ impl Run {
         ensures { Considered market.now stands.old self.old taker stands.new self.new }
     {
         let brew = usize::from(stands[taker]);
-        let place = place_in(market.books.takers, taker + 1, brew);
+        let place = market.books.takers.place(taker + 1, brew).unwrap();
         let next = market.next_brew(taker, usize::from(place)).unwrap();
         stands[taker] = next as u8;
         self.wait(taker);
@@ -84,7 +83,7 @@ impl Run {
         ensures { Considered market.now stands.old self.old taker stands.new self.new }
     {
         let brew = usize::from(stands[taker]);
-        let place = place_in(market.books.brews, brew, taker + 1);
+        let place = market.books.brews.place(brew, taker + 1).unwrap();
         if self.has_lot(market.choice, brew) {
             self.hold(brew, taker, place);
         } else if self.is_behind(brew, place) {

@@ -18,7 +18,10 @@ impl Run {
             line: Line::new(),
             slots: [0; MOST],
             waiting: [true; MOST],
-            held: [Held { count: 0, last: 0 }; BY_BREW],
+            held: [Held {
+                count: 0,
+                last: None,
+            }; BY_BREW],
         }
     }
 

@@ -29,7 +29,7 @@ impl Run {
         requires { brew < 17 }
         ensures { result ≡ nat_lt place (slice_index (lasts self.now) brew) }
     {
-        place < self.held[brew].last
+        self.held[brew].last.is_some_and(|last| place < last)
     }
 
     /// Has a brew hold one taker more, at this place of its order.
@@ -40,7 +40,7 @@ impl Run {
         self.waiting[taker] = false;
         let held = &mut self.held[brew];
         held.count += 1;
-        held.last = held.last.max(place);
+        held.last = held.last.max(Some(place));
     }
 
     /// Puts a taker behind all who wait.
