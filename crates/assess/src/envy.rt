@@ -1,6 +1,6 @@
 //! Just envies: a taker ranks the brew of a rival above its own, and that brew ranks it above the rival.
 
-ghost use Rattle.std.specs.Prelude.{◌≡◌, ◌+◌, ◌^◌, ◌<◌, ◌≤◌, [], ◌∷◌, IsTrue};
+ghost use Rattle.std.specs.Prelude.{◌≡◌, ◌+◌, ◌^◌, ◌<◌, ◌≤◌, [], ◌∷◌, ℕ, List, IsTrue};
 ghost use Rattle.fair.specs.Allotments.{brew_of};
 ghost use Rattle.fair.specs.Markets.{prefers};
 ghost use Rattle.choices.specs.Rounds.{figures_of};
@@ -93,7 +93,7 @@ impl<T: OrderBook, B: OrderBook> Market<'_, '_, T, B> {
         line: &mut Line,
         slots: &mut [Envy],
     ) -> usize
-        requires { taker < 432 }
+        requires { (taker < 432) × (1 ≤ brew) }
         ensures told { OffersAll (envies_over (market_in T.meaning B.meaning self.now) allotment.now taker brew (figures_of self.now.figures).takers) result line.old slots.old line.new slots.new }
         ensures few { result ≤ 432 }
     {
@@ -101,9 +101,9 @@ impl<T: OrderBook, B: OrderBook> Market<'_, '_, T, B> {
             return 0;
         }
         let mut count = 0;
-        // A range: the list may be shorter than the takers.
-        for rival in 0..self.figures.takers() {
-            count += self.envy_over(allotment, taker, brew, rival, line, slots);
+        for (rival, &entry) in allotment.iter().take(self.figures.takers()).enumerate() {
+            let other = usize::from(entry);
+            count += self.envy_over(taker, brew, rival, other, line, slots);
         }
         count
     }
@@ -112,19 +112,17 @@ impl<T: OrderBook, B: OrderBook> Market<'_, '_, T, B> {
     /// it ranks the taker above the rival.
     fn envy_over(
         &self,
-        allotment: &[u8],
         taker: usize,
         brew: usize,
         rival: usize,
+        other: usize,
         line: &mut Line,
         slots: &mut [Envy],
     ) -> usize
-        requires numbers { (taker < 432) × (rival < 432) }
-        requires above { IsTrue (prefers (market_in T.meaning B.meaning self.now) taker brew (brew_of allotment.now taker)) }
-        ensures told { OffersAll (envy_over (market_in T.meaning B.meaning self.now) allotment.now taker brew rival) result line.old slots.old line.new slots.new }
+        requires { (taker < 432) × (rival < 432) }
+        ensures told { (a : List ℕ) → IsTrue (prefers (market_in T.meaning B.meaning self.now) taker brew (brew_of a taker)) → other ≡ brew_of a rival → OffersAll (envy_over (market_in T.meaning B.meaning self.now) a taker brew rival) result line.old slots.old line.new slots.new }
         ensures few { result ≤ 1 }
     {
-        let other = brew_of(allotment, rival);
         if other == brew && ranks_above(self.brews, brew, taker + 1, rival + 1) {
             let envy = Envy {
                 taker: number(taker),
