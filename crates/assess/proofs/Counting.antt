@@ -1,9 +1,11 @@
 -- The counts of a list, one entry more.
-use Rattle.std.proofs.Common.{◌≡◌, ℕ, ◌+◌, ◌-◌, ◌<◌, ◌≤◌, Bool, true, false, eqb, List, length, get_or, set, take, sym, add-one, add-suc, add-zero, zero, suc, ap, ◌∙◌, ⊎_elim, arith}
+use Rattle.std.proofs.Common.{◌≡◌, ℕ, ◌+◌, ◌-◌, ◌<◌, ◌≤◌, Bool, true, false, eqb, List, length, get_or, set, take, sym, add-one, add-suc, add-zero, zero-add, zero, suc, ap, ◌∙◌, ⊎_elim, arith}
 use Rattle.std.proofs.lemmas.List.{get_or-set_same, get_or-set_other, get_or-take, get_or_default, length-set, length-take}
 use Rattle.std.proofs.Math.ListN.{get_or-eq_default}
 use Rattle.std.proofs.lemmas.Bool.{cases_eq, eq-eqb, ne_eqb}
 use Rattle.std.proofs.lemmas.Bool.Decides.{nat_tests}
+use Rattle.std.specs.List.{enumerate_from}
+use Rattle.std.proofs.lemmas.List.FromFn.{get_or-enumerate_from, length-enumerate_from}
 use Rattle.tally.specs.Tally.{tally}
 use Rattle.tally.proofs.Tallies.{tally_le, tally_more_yes, tally_more_no}
 use Rattle.fair.specs.Allotments.{brew_of}
@@ -57,6 +59,13 @@ next_entry a n i x here =
     let within : i < n = omega (arith, here.0, length-take n a) in
     let inside : i < length a = omega (arith, here.0, length-take n a) in
     (within, here.1 ∙ get_or-take n a i x within ∙ get_or_default a i x 0 inside)
+
+-- the same of an iterator that numbers them
+pub next_numbered : (a : List ℕ) (n i k x : ℕ) → (i < length (enumerate_from 0 (take n a))) × ((k, x) ≡ get_or (enumerate_from 0 (take n a)) i (k, x)) → (k ≡ i) × ((i < n) × (x ≡ brew_of a i))
+next_numbered a n i k x here =
+    let inside : i < length (take n a) = omega (arith, here.0, length-enumerate_from 0 (take n a)) in
+    let same : (k, x) ≡ (0 + i, get_or (take n a) i x) = here.1 ∙ get_or-enumerate_from 0 (take n a) i (k, x) inside in
+    (ap (λ (p : ℕ × ℕ). p.0) same ∙ zero-add i, next_entry a n i x (inside, ap (λ (p : ℕ × ℕ). p.1) same))
 
 -- a test that fails from i on passes no more often
 tally_past : (p : ℕ → Bool) (i n : ℕ) → ((k : ℕ) → i ≤ k → k < i + n → p k ≡ false) → tally p (i + n) ≡ tally p i

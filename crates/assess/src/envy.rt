@@ -1,6 +1,6 @@
 //! Just envies: a taker ranks the brew of a rival above its own, and that brew ranks it above the rival.
 
-ghost use Rattle.std.specs.Prelude.{◌≡◌, ◌+◌, ◌^◌, ◌<◌, ◌≤◌, [], ◌∷◌, IsTrue};
+ghost use Rattle.std.specs.Prelude.{◌≡◌, ◌+◌, ◌^◌, ◌<◌, ◌≤◌, [], ◌∷◌, ℕ, List, IsTrue};
 ghost use Rattle.fair.specs.Allotments.{brew_of};
 ghost use Rattle.fair.specs.Markets.{prefers};
 ghost use Rattle.choices.specs.Rounds.{figures_of};
@@ -58,28 +58,29 @@ impl<T: OrderBook, B: OrderBook> Market<'_, '_, T, B> {
     {
         line.clear();
         let mut count = 0;
-        // A range: the list may be shorter than the takers.
-        for taker in 0..self.figures.takers() {
-            count += self.envies_of(allotment, taker, line, slots);
+        for (taker, &entry) in allotment.iter().take(self.figures.takers()).enumerate() {
+            let own = usize::from(entry);
+            count += self.envies_of(allotment, taker, own, line, slots);
         }
         count
     }
 
-    /// Counts and offers the just envies of a taker.
+    /// Counts and offers the just envies of a taker, whose own brew is given.
     fn envies_of(
         &self,
         allotment: &[u8],
         taker: usize,
+        own: usize,
         line: &mut Line,
         slots: &mut [Envy],
     ) -> usize
-        requires { taker < 432 }
+        requires { (taker < 432) × (own ≡ brew_of allotment.now taker) }
         ensures told { OffersAll (envies_of (market_in T.meaning B.meaning self.now) allotment.now taker) result line.old slots.old line.new slots.new }
         ensures few { result ≤ 6912 }
     {
         let mut count = 0;
         for brew in 1..=self.figures.brews() {
-            count += self.envies_over(allotment, taker, brew, line, slots);
+            count += self.envies_over(allotment, taker, own, brew, line, slots);
         }
         count
     }
@@ -89,42 +90,41 @@ impl<T: OrderBook, B: OrderBook> Market<'_, '_, T, B> {
         &self,
         allotment: &[u8],
         taker: usize,
+        own: usize,
         brew: usize,
         line: &mut Line,
         slots: &mut [Envy],
     ) -> usize
-        requires { taker < 432 }
+        requires { (taker < 432) × (own ≡ brew_of allotment.now taker) × (1 ≤ brew) }
         ensures told { OffersAll (envies_over (market_in T.meaning B.meaning self.now) allotment.now taker brew (figures_of self.now.figures).takers) result line.old slots.old line.new slots.new }
         ensures few { result ≤ 432 }
     {
-        if !ranks_above(self.takers, taker + 1, brew, brew_of(allotment, taker)) {
+        if !ranks_above(self.takers, taker + 1, brew, own) {
             return 0;
         }
         let mut count = 0;
-        // A range: the list may be shorter than the takers.
-        for rival in 0..self.figures.takers() {
-            count += self.envy_over(allotment, taker, brew, rival, line, slots);
+        for (rival, &entry) in allotment.iter().take(self.figures.takers()).enumerate() {
+            let other = usize::from(entry);
+            count += self.envy_over(taker, brew, rival, other, line, slots);
         }
         count
     }
 
-    /// Counts and offers the envy of one rival over a brew that the taker ranks above its own: the rival has that brew, and
-    /// it ranks the taker above the rival.
+    /// Counts and offers the envy of one rival over a brew that the taker ranks above its own: the rival's, which is given,
+    /// is that brew, and it ranks the taker above the rival.
     fn envy_over(
         &self,
-        allotment: &[u8],
         taker: usize,
         brew: usize,
         rival: usize,
+        other: usize,
         line: &mut Line,
         slots: &mut [Envy],
     ) -> usize
-        requires numbers { (taker < 432) × (rival < 432) }
-        requires above { IsTrue (prefers (market_in T.meaning B.meaning self.now) taker brew (brew_of allotment.now taker)) }
-        ensures told { OffersAll (envy_over (market_in T.meaning B.meaning self.now) allotment.now taker brew rival) result line.old slots.old line.new slots.new }
+        requires { (taker < 432) × (rival < 432) }
+        ensures told { (a : List ℕ) → IsTrue (prefers (market_in T.meaning B.meaning self.now) taker brew (brew_of a taker)) → other ≡ brew_of a rival → OffersAll (envy_over (market_in T.meaning B.meaning self.now) a taker brew rival) result line.old slots.old line.new slots.new }
         ensures few { result ≤ 1 }
     {
-        let other = brew_of(allotment, rival);
         if other == brew && ranks_above(self.brews, brew, taker + 1, rival + 1) {
             let envy = Envy {
                 taker: number(taker),
