@@ -8,7 +8,7 @@ use orders::book::OrderBook;
 use orders::limits::PLACES;
 
 /// For each chooser of a book, in a row of its own, the numbers of the items from best to worst.
-// One array for the widest book: nothing is allocated.
+// One array for the widest book: nothing is allocated. Not the table of a book, whose rows hold orders or begin with 0.
 #[derive(Drop)]
 pub(crate) struct Ranking {
     items: usize,

@@ -10,7 +10,7 @@ mod applying;
 mod beginning;
 mod holding;
 
-/// A number for each brew from 1 on; that at 0 is not used.
+/// A place for each brew from 1 on; that at 0 is not used.
 const BY_BREW: usize = BREWS + 1;
 
 /// What a brew holds.
@@ -28,9 +28,10 @@ struct Held {
 pub(crate) struct Run {
     /// The takers, by index, who wait.
     line: Line,
-    // Beside the line, which is handed a slice at each call.
+    // The line is handed its slots at each call.
     slots: [u16; MOST],
     /// Whether a taker waits.
+    // Beside the list of where the takers stand, which is lent and holds brews alone.
     waiting: [bool; MOST],
     held: [Held; BY_BREW],
     ghost room: { length slots ≡ 432 },

@@ -22,6 +22,8 @@ pub struct Envy {
 }
 
 // The line and its slots stay two parameters: the slice is handed to each call of a line.
+// The list is a parameter too, as a market is asked of any list; takers and brews are plain numbers, and each function
+// asks for their range.
 impl<T: OrderBook, B: OrderBook> Market<'_, '_, T, B> {
     /// The lowest taker, by number from 1, that has a just envy.
     pub fn lowest_envious(&self, allotment: &[u8]) -> Option<usize>
@@ -79,6 +81,7 @@ impl<T: OrderBook, B: OrderBook> Market<'_, '_, T, B> {
         ensures few { result ≤ 6912 }
     {
         let mut count = 0;
+        // Brews are numbers: the book is asked for each.
         for brew in 1..=self.figures.brews() {
             count += self.envies_over(allotment, taker, own, brew, line, slots);
         }

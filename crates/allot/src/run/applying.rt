@@ -10,6 +10,8 @@ use super::Run;
 use crate::open_market::OpenMarket;
 use orders::book::OrderBook;
 
+// The list where the takers stand is a parameter beside the market: no ghost field is covered in a struct that would
+// hold it by `&mut`.
 impl Run {
     /// The last of the first places of a brew's order, counted from 0, whose taker it holds.
     fn last_held<T: OrderBook, B: OrderBook>(
@@ -24,7 +26,7 @@ impl Run {
         requires places { places ≤ market.now.choice.now.figures.takers }
         ensures { LastHeld (market_in market.now) stands.now self.now.waiting brew places result }
     {
-        // A loop: what `find` gives over a range under `rev` is not known, nor to a closure that each place is within it.
+        // A loop: that `find` over a range under `rev` gives the last place is not proved.
         for place in (0..places).rev() {
             if self.holds(stands, brew, market.taker_at(brew, place)) {
                 return Some(place);

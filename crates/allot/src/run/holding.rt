@@ -1,6 +1,6 @@
 //! What a brew does with the takers who apply to it.
 
-ghost use Rattle.std.specs.Prelude.{◌≡◌, ◌<◌, [], ◌∷◌, ◌++◌, length, nat_lt, slice_index};
+ghost use Rattle.std.specs.Prelude.{◌≡◌, ◌<◌, length, nat_lt, slice_index};
 ghost use Rattle.acceptance.specs.Running.{holds};
 ghost use Rattle.allot.specs.Runs.{HoldsMore, Waiting, counts, in_line, lasts};
 
