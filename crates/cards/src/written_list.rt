@@ -4,7 +4,7 @@ ghost use Rattle.std.specs.Prelude.{◌≡◌, ◌<◌, ◌≤◌, ◌==◌, len
 ghost use Rattle.orders.specs.Books.{ReadInto, within};
 ghost use Rattle.orders.specs.declared.fault.CardFault.TheVariants.{OutOfRange, Repeated};
 ghost use Rattle.cards.specs.Readings.{list_or_fault, list_reading};
-ghost use Rattle.cards.specs.Steps.{Checked, EntryRead, Listed, ListedTo};
+ghost use Rattle.cards.specs.Steps.{Checked, EntryRead, Listed, ListedTo, bytes_of, items_of};
 ghost use Rattle.cards.specs.Orders.{list_reads_orders};
 
 use crate::card::Card;
@@ -22,7 +22,7 @@ pub type ListBook = CardBook<WrittenList>;
 
 /// Refuses an entry, counted from 1, that names no item.
 fn check_range(card: &Card, item: usize, entry: usize) -> Result<(), CardFault>
-    ensures { Checked (within item card.now.items) (OutOfRange entry) result }
+    ensures { Checked (within item (items_of card.now)) (OutOfRange entry) result }
 {
     if !(1..=card.items()).contains(&item) {
         return Err(CardFault::OutOfRange { entry });
@@ -43,9 +43,9 @@ fn check_new(place: u16, entry: usize) -> Result<(), CardFault>
 /// Reads entry k, counted from 0, behind entries that are good. An item's place is 0 until an entry
 /// names it, so an entry that finds another place there repeats an earlier one.
 fn read_entry(card: &Card, k: usize, places: &mut [u16]) -> Result<(), CardFault>
-    requires room { card.now.items ≤ length places.old }
-    requires before { (k < card.now.items) × ListedTo card.now.items card.now.bytes.now k places.old }
-    ensures { EntryRead card.now.items card.now.bytes.now k places.old result places.new }
+    requires room { items_of card.now ≤ length places.old }
+    requires before { (k < items_of card.now) × ListedTo (items_of card.now) (bytes_of card.now) k places.old }
+    ensures { EntryRead (items_of card.now) (bytes_of card.now) k places.old result places.new }
 {
     let entry = k + 1;
     let item = usize::from(card.entry(k));
@@ -57,7 +57,7 @@ fn read_entry(card: &Card, k: usize, places: &mut [u16]) -> Result<(), CardFault
 
 /// The place of each item, in a table that may have more places than there are items.
 fn places_of(card: &Card) -> Result<[u16; MOST], CardFault>
-    ensures { Listed card.now.items card.now.bytes.now result }
+    ensures { Listed (items_of card.now) (bytes_of card.now) result }
 {
     // As wide as the widest card, as nothing is allocated; 0 and no Option, as the row takes the places as they are.
     let mut places = [0; MOST];
@@ -70,8 +70,8 @@ fn places_of(card: &Card) -> Result<[u16; MOST], CardFault>
 
 /// Reads a card into a row; a refused card leaves it as it was.
 fn fill_row(card: &Card, row: &mut [u16]) -> Result<(), CardFault>
-    requires { card.now.items ≡ length row.old }
-    ensures { ReadInto (list_or_fault card.now.items card.now.bytes.now) row.old result row.new }
+    requires { items_of card.now ≡ length row.old }
+    ensures { ReadInto (list_or_fault (items_of card.now) (bytes_of card.now)) row.old result row.new }
 {
     let places = places_of(card)?;
     row.copy_from_slice(&places[..row.len()]);
