@@ -39,6 +39,7 @@ impl<'a> Card<'a> {
     }
 
     /// Entry k, counted from 0.
+    // Whoever asks shows that there is one, as of an index.
     #[tactic(auto, using(crate::proofs::Pairs::number_of))]
     pub(crate) fn entry(&self, k: usize) -> u16
         requires { k < items_of self.now }

@@ -61,7 +61,7 @@ fn places_of(card: &Card) -> Result<[u16; MOST], CardFault>
 {
     // As wide as the widest card, as nothing is allocated; 0 and no Option, as the row takes the places as they are.
     let mut places = [0; MOST];
-    // A range: an entry is read by its place, which a fault tells.
+    // A range: each step is told by number which entry it reads, as a fault tells it.
     for k in 0..card.items() {
         read_entry(card, k, &mut places)?;
     }
