@@ -7,6 +7,7 @@ ghost use Rattle.allot.specs.Runs.{HoldsMore, Waiting, counts, in_line, lasts};
 use super::Run;
 use choices::choice::Choice;
 
+// Takers and brews are plain numbers: that they are within the arrays is asked for, as of an index.
 impl Run {
     /// Whether a brew holds a taker.
     pub(crate) fn holds(&self, stands: &[u8], brew: usize, taker: usize) -> bool
