@@ -1,12 +1,14 @@
 -- A table in which one row is written over by an order.
-use Rattle.std.specs.Prelude.{◌≡◌, ℕ, ◌+◌, ◌-◌, ◌*◌, ◌<◌, ◌≤◌, true, false, cond, List, length, drop, Some, ◌==◌, ◌≢◌, slice_range, refl}
-use Rattle.std.proofs.Common.{sym, ap, subst, ◌∙◌, ⊎_elim, add-mul, mul-le-mul_right, arith, rules}
+use Rattle.std.specs.Prelude.{◌≡◌, ℕ, ◌+◌, ◌-◌, ◌*◌, ◌<◌, ◌≤◌, Bool, true, false, cond, ◌&&◌, List, length, take, drop, Some, None, ◌==◌, ◌≢◌, nat_lt, slice_index, slice_range, refl}
+use Rattle.std.specs.Option.{option_map}
+use Rattle.std.proofs.Common.{sym, ap, subst, ◌∙◌, ⊎_elim, add-mul, add-zero, mul-le-mul_right, arith, rules}
+use Rattle.std.proofs.Math.Nat.{add-sub_cancel_left}
 use borrow.Rule.Slice.PartMut.{put_mid}
 use Rattle.std.proofs.lemmas.Slice.{between_is, take-put_mid_below, overwrites}
-use Rattle.std.proofs.lemmas.List.{places}
-use Rattle.std.proofs.lemmas.Bool.{cases_eq, cases_order, cases_Bool, lt-ltb, eq-eqb, ne_eqb, and_from, and_left, cond-true, cond-false}
+use Rattle.std.proofs.lemmas.List.{places, get_or-take, get_or-drop}
+use Rattle.std.proofs.lemmas.Bool.{cases_eq, cases_order, cases_Bool, lt-ltb, eq-eqb, ne_eqb, and_from, and_left, and_parts, ltb-true, cond-true, cond-false}
 use Rattle.std.proofs.lemmas.Bool.Decides.{nat_tests}
-use Rattle.orders.specs.Books.{IsOrder, within}
+use Rattle.orders.specs.Books.{IsOrder, place_in, within}
 use Rattle.orders.specs.Rows.{HoldsOrders, order_at, row_of}
 use Rattle.orders.specs.Tables.{table_meaning}
 use Rattle.orders.specs.declared.table.OrderTable.{OrderTable}
@@ -113,3 +115,53 @@ rewritten table chooser row part known order is =
       held = written_held table.choosers items chooser table.places row known room order some table.orders;
       orders = written_orders table.choosers items chooser table.places row known room order some;
     }
+
+-- the row of a chooser, and its first place, by the list itself
+row_taken : (items : ℕ) (xs : List ℕ) (chooser : ℕ) → row_of items xs chooser ≡ take items (drop ((chooser - 1) * items) xs)
+row_taken items xs chooser = let start = (chooser - 1) * items in ap (λ n. take n (drop start xs)) (add-sub_cancel_left start items)
+
+row_first : (items : ℕ) (xs : List ℕ) (chooser : ℕ) → 0 < items → slice_index (row_of items xs chooser) 0 ≡ slice_index xs ((chooser - 1) * items)
+row_first items xs chooser some =
+    let start = (chooser - 1) * items in
+    ap (λ ys. slice_index ys 0) (row_taken items xs chooser)
+    ∙ get_or-take items (drop start xs) 0 0 some
+    ∙ get_or-drop start xs 0 0
+    ∙ ap (λ k. slice_index xs k) (add-zero start)
+
+-- the place that the table holds
+pub place_kept : (choosers items : ℕ) (xs : List ℕ) (chooser item : ℕ) → within chooser choosers ≡ true → within item items ≡ true → 0 < slice_index xs ((chooser - 1) * items)
+    → place_in (record { choosers = choosers; items = items; order = order_at choosers items xs }) chooser item ≡ Some (slice_index xs ((chooser - 1) * items + (item - 1)))
+place_kept choosers items xs chooser item known listed begun =
+    let start = (chooser - 1) * items in
+    let inside : item - 1 < items = row_inside item items listed in
+    let head = row_first items xs chooser (omega (arith, inside)) in
+    let order = cond-true _ (Some (row_of items xs chooser)) None (and_from _ _ known (lt-ltb 0 _ (omega (arith, head, begun)))) in
+    cond-true _ _ _ (and_from _ _ known listed)
+    ∙ ap (option_map (λ places. slice_index places (item - 1))) order
+    ∙ ap (λ ys. Some (slice_index ys (item - 1))) (row_taken items xs chooser)
+    ∙ ap Some (get_or-take items (drop start xs) (item - 1) 0 inside ∙ get_or-drop start xs (item - 1) 0)
+
+-- What the list has of an order that the table holds.
+pub record Row (choosers items : ℕ) (xs : List ℕ) (chooser : ℕ) (places : List ℕ) : Type 0 where
+  pub listed : within chooser choosers ≡ true
+  pub begun : 0 < slice_index xs ((chooser - 1) * items)
+  pub is : take items (drop ((chooser - 1) * items) xs) ≡ places
+
+pub row_kept : (choosers items : ℕ) (xs : List ℕ) (chooser : ℕ) (places : List ℕ) → 0 < items → order_at choosers items xs chooser ≡ Some places → Row choosers items xs chooser places
+row_kept choosers items xs chooser places some e =
+    let row = row_of items xs chooser in
+    let test : Bool = within chooser choosers && nat_lt 0 (slice_index row 0) in
+    ⊎_elim
+    (λ (t : test ≡ true).
+    let parts = and_parts _ _ t in
+    let found : Some row ≡ Some places = sym (cond-true _ _ _ t) ∙ e in
+    let same : row ≡ places = cc in
+    record {
+      listed = parts.0;
+      begun = omega (arith, ltb-true 0 _ parts.1, row_first items xs chooser some);
+      is = sym (row_taken items xs chooser) ∙ same;
+    })
+    (λ (f : test ≡ false).
+    let none : None ≡ Some places = sym (cond-false _ (Some row) None f) ∙ e in
+    absurd (cc))
+    (cases_Bool test)

@@ -90,7 +90,8 @@ impl OrderTable {
     pub(crate) fn place(&self, chooser: usize, item: usize) -> Option<u16>
         ensures { result ≡ place_in (table_meaning self.now) chooser item }
     {
-        let index = item.checked_sub(1)?;
-        self.order(chooser)?.get(index).copied()
+        // The chooser first: who asks for one item after the other has its row found once.
+        let order = self.order(chooser)?;
+        order.get(item.checked_sub(1)?).copied()
     }
 }
