@@ -30,10 +30,10 @@ impl Figures {
     pub fn new(brews: usize, opened: usize, lots: usize) -> Option<Figures>
         ensures { Made brews opened lots result }
     {
-        if !(1..=BREWS).contains(&brews) || !(1..=OPENED).contains(&opened) {
+        if !(1..=BREWS).contains(&brews) || !(1..=OPENED).contains(&opened) || opened > brews {
             return None;
         }
-        if opened > brews || !(1..=LOTS).contains(&lots) {
+        if !(1..=LOTS).contains(&lots) {
             return None;
         }
         Some(Figures {
