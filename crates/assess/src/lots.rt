@@ -30,7 +30,8 @@ fn counts(allotment: &[u8], brews: usize, n: usize) -> [u16; BREWS]
     ensures { CountsTo brews allotment.now n result }
 {
     let mut counts = [0; BREWS];
-    for &entry in allotment.iter().take(n) {
+    // The list is cut before the loop: `take` would count the entries once more.
+    for &entry in &allotment[..n.min(allotment.len())] {
         let brew = usize::from(entry);
         if (1..=brews).contains(&brew) {
             counts[brew - 1] += 1;

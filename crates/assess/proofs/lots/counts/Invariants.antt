@@ -1,6 +1,5 @@
-use Rattle.std.proofs.Common.{length}
 use Rattle.assess.specs.Lots.{CountsTo}
 use Rattle.assess.proofs.lots.counts.Given as goal
 
 abbrev pub invariant-loop-entry : goal.invariant-loop-entry
-invariant-loop-entry l = CountsTo l.brews l.allotment (length l.yielded) l.counts
+invariant-loop-entry l = CountsTo l.brews l.allotment l.entry-index l.counts
