@@ -10,6 +10,7 @@ use Rattle.orders.proofs.Written.{row_end}
 use Rattle.orders.specs.declared.book.OrderBook.{Ghosts}
 use Rattle.fair.specs.Markets.{InLimits, IsBrew, Market, SoundMarket}
 use Rattle.fair.specs.Choices.{among, IsChoice}
+use Rattle.fair.proofs.Choosing.{choice_within}
 use Rattle.fair.proofs.FromBooks.{market_from_books}
 use Rattle.choices.specs.Rounds.{figures_of}
 use Rattle.choices.specs.Chosen.{brews_of}
@@ -109,8 +110,17 @@ module _ {T B : Type 0} {ts : Ghosts T} {bs : Ghosts B} (o : OpenMarket T B ts b
       let apart : w.taker_place c t ≡ w.taker_place c r → ⊥ = λ e. both_ways _ unheld (subst (λ k. holds a waiting c k ≡ true) (sound_market.takers_apart c t r brew l here.taker e) h) in
       omega (arith, none t l h near, here.there)
 
-  -- a taker's row stands in the table
-  taker_row : (s : ℕ) → s < o.choice.now.figures.takers → s * o.books.now.by_taker.items + o.books.now.by_taker.items ≤ 6912
+  -- the next brew of a taker is one of a run's
+  pub next_fits : (s place d : ℕ) → NextAfter w s cs place (Some d) → d < 17
+  next_fits s place d next = (brew_fits d (choice_within (figures_of o.choice.now.figures) cs is_choice d next.0)).1
+
+  -- a brew's row stands in the table, and a taker's
+  pub brew_row : (k : ℕ) → k < o.choice.now.figures.brews → k * o.books.now.by_brew.items + o.books.now.by_brew.items ≤ 6912
+  brew_row k l =
+      let wide : k * o.books.now.by_brew.items ≡ k * brews_book.items = ap (λ n. k * n) o.books.now.takers_ranked.wide in
+      omega (arith, o.books.now.takers_ranked.wide, brews_sound.few_places, row_end k brews_book.choosers brews_book.items (omega (arith, o.complete.a_brew_each)))
+
+  pub taker_row : (s : ℕ) → s < o.choice.now.figures.takers → s * o.books.now.by_taker.items + o.books.now.by_taker.items ≤ 6912
   taker_row s l =
       let wide : s * o.books.now.by_taker.items ≡ s * takers_book.items = ap (λ n. s * n) o.books.now.brews_ranked.wide in
       omega (arith, o.books.now.brews_ranked.wide, takers_sound.few_places, row_end s takers_book.choosers takers_book.items (omega (arith, o.complete.a_taker_each)))

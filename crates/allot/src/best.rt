@@ -33,8 +33,8 @@ fn write_best<T: OrderBook, B: OrderBook>(
     market.best_fair(allotment);
 }
 
-/// Writes the best fair allotment over a choice, the brew of each taker. It is refused where the books are not complete
-/// for the figures of the choice, and else where the list has another length than there are takers; refused, the list
+/// Writes the best fair allotment over a choice, the brew of each taker. It is refused where the list has another length
+/// than there are takers, and else where the books are not complete for the figures of the choice; refused, the list
 /// stays as it was.
 // Books and choice, and no `Market`: a choice has its own figures.
 pub fn best_fair<T: OrderBook, B: OrderBook>(
@@ -50,11 +50,12 @@ pub fn best_fair<T: OrderBook, B: OrderBook>(
         takers,
         brews,
     };
-    if !market.is_complete() {
-        return Err(AllotFault::Incomplete);
-    }
+    // The list first: no book is asked for one that is refused.
     if allotment.len() != market.figures.takers() {
         return Err(AllotFault::Length);
+    }
+    if !market.is_complete() {
+        return Err(AllotFault::Incomplete);
     }
     write_best(takers, brews, choice, allotment);
     Ok(())
