@@ -64,22 +64,21 @@ fn print_envies<T: OrderBook, B: OrderBook>(
     Ok(())
 }
 
-/// A book of so many items with a chooser for each card.
-fn book_of<R: CardReader + Drop>(
-    kind: R,
-    items: usize,
-    cards: &[&[u8]],
-) -> anyhow::Result<CardBook<R>> {
-    let mut book = CardBook::new(kind);
-    fill(&mut book, items, cards).map_err(|_| anyhow!("a card is refused"))?;
-    Ok(book)
+/// Makes a book of so many items with a chooser for each card.
+// Not a function that answers the book: it would be copied, with its whole table.
+fn fill_book<B: OrderBook>(book: &mut B, items: usize, cards: &[&[u8]]) -> anyhow::Result<()> {
+    fill(book, items, cards).map_err(|_| anyhow!("a card is refused"))
 }
 
 /// Prints the choices of a round, and what there is to say of the allotment written by hand.
+// Not inlined: the books of all rounds would lie on the stack at once.
+#[inline(never)]
 fn print_round<R: CardReader + Drop>(rt: &HostRuntime, round: Round<'_, R>) -> anyhow::Result<()> {
     rt.println(round.title)?;
-    let takers = book_of(WrittenList, round.brews.len(), round.takers)?;
-    let brews = book_of(round.kind, round.takers.len(), round.brews)?;
+    let mut takers = CardBook::new(WrittenList);
+    fill_book(&mut takers, round.brews.len(), round.takers)?;
+    let mut brews = CardBook::new(round.kind);
+    fill_book(&mut brews, round.takers.len(), round.brews)?;
     let market = Market {
         figures: Figures::new(round.brews.len(), round.opened, round.lots).context(
             "the figures are outside their limits",
