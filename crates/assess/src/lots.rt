@@ -45,9 +45,8 @@ fn first_partly(counts: &[u16], lots: usize, n: usize) -> Option<usize>
     requires { n ≤ length counts.now }
     ensures { FirstPartly counts.now lots n result }
 {
-    let brew = counts
+    let brew = counts[..n]
         .iter()
-        .take(n)
         .position(|&takers| is_partly(lots, usize::from(takers)))?;
     Some(brew + 1)
 }
