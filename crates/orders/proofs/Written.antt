@@ -1,5 +1,5 @@
 -- A table in which one row is written over by an order.
-use Rattle.std.specs.Prelude.{◌≡◌, ℕ, ◌+◌, ◌-◌, ◌*◌, ◌<◌, ◌≤◌, Bool, true, false, cond, ◌&&◌, List, length, take, drop, Some, None, ◌==◌, ◌≢◌, nat_lt, slice_index, slice_range, refl}
+use Rattle.std.specs.Prelude.{◌≡◌, ℕ, zero, suc, ◌+◌, ◌-◌, ◌*◌, ◌<◌, ◌≤◌, Bool, true, false, cond, ◌&&◌, List, length, take, drop, Some, None, ◌==◌, ◌≢◌, nat_lt, slice_index, slice_range, refl}
 use Rattle.std.specs.Option.{option_map}
 use Rattle.std.proofs.Common.{sym, ap, subst, ◌∙◌, ⊎_elim, add-mul, add-zero, mul-le-mul_right, arith, rules}
 use Rattle.std.proofs.Math.Nat.{add-sub_cancel_left}
@@ -147,18 +147,24 @@ pub record Row (choosers items : ℕ) (xs : List ℕ) (chooser : ℕ) (places : 
   pub begun : 0 < slice_index xs ((chooser - 1) * items)
   pub is : take items (drop ((chooser - 1) * items) xs) ≡ places
 
-pub row_kept : (choosers items : ℕ) (xs : List ℕ) (chooser : ℕ) (places : List ℕ) → 0 < items → order_at choosers items xs chooser ≡ Some places → Row choosers items xs chooser places
-row_kept choosers items xs chooser places some e =
+-- a row that is begun has an item
+row_some : (items : ℕ) (xs : List ℕ) (chooser : ℕ) → 0 < slice_index (row_of items xs chooser) 0 → 0 < items
+row_some zero xs chooser begun = let none = ap (λ ys. slice_index ys 0) (row_taken 0 xs chooser) in absurd (omega (arith, begun, none))
+row_some (suc n) xs chooser begun = omega arith
+
+pub row_kept : (choosers items : ℕ) (xs : List ℕ) (chooser : ℕ) (places : List ℕ) → order_at choosers items xs chooser ≡ Some places → Row choosers items xs chooser places
+row_kept choosers items xs chooser places e =
     let row = row_of items xs chooser in
     let test : Bool = within chooser choosers && nat_lt 0 (slice_index row 0) in
     ⊎_elim
     (λ (t : test ≡ true).
     let parts = and_parts _ _ t in
+    let first = ltb-true 0 _ parts.1 in
     let found : Some row ≡ Some places = sym (cond-true _ _ _ t) ∙ e in
     let same : row ≡ places = cc in
     record {
       listed = parts.0;
-      begun = omega (arith, ltb-true 0 _ parts.1, row_first items xs chooser some);
+      begun = omega (arith, first, row_first items xs chooser (row_some items xs chooser first));
       is = sym (row_taken items xs chooser) ∙ same;
     })
     (λ (f : test ≡ false).

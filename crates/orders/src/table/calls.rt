@@ -90,8 +90,10 @@ impl OrderTable {
     pub(crate) fn place(&self, chooser: usize, item: usize) -> Option<u16>
         ensures { result ≡ place_in (table_meaning self.now) chooser item }
     {
-        // The chooser first: who asks for one item after the other has its row found once.
-        let order = self.order(chooser)?;
-        order.get(item.checked_sub(1)?).copied()
+        // Both numbers first: no row is read for one that is out of range.
+        if !self.has(chooser) || !(1..=self.items).contains(&item) {
+            return None;
+        }
+        self.order(chooser)?.get(item - 1).copied()
     }
 }
