@@ -10,8 +10,8 @@ use orders::book::OrderBook;
 pub fn without_order<B: OrderBook>(book: &B) -> Option<usize>
     ensures { WithoutOrder (B.meaning book.now) result }
 {
-    // A loop: that `find` over a range gives the lowest number, or none, is not proved. From 0: a range that holds its end
-    // counts once more at each step.
+    // A loop: that `find` over a range gives the lowest number, or none, is not proved. From 0 on: ranges from 1 on took
+    // longer.
     for k in 0..book.choosers() {
         if book.place(k + 1, 1).is_none() {
             return Some(k + 1);
