@@ -52,6 +52,8 @@ impl<R: CardReader> OrderBook for CardBook<R> {
         self.table.clear(choosers, items)
     }
 
+    // Inlined, so that a refused call stays short, and a short card too.
+    #[inline]
     fn enter(&mut self, chooser: usize, card: &[u8]) -> Result<(), BookFault> {
         if !self.table.has(chooser) {
             return Err(BookFault::Chooser);
